@@ -1,0 +1,69 @@
+-- The reader: what the answer to a file is (01: "The job file" and "Refusal table").
+use mathlib.Core.Bool.{Bool, true, false, not}
+use mathlib.Core.List.{List, [], _∷_, _++_, map}
+use mathlib.Core.Option.{Option, none, some}
+use Prim.Native.Nat.{ℕ, zero, suc, _-_}
+use lib.Dec.{ltb}
+use lib.ListN.{length, replicate}
+use Rattle.job.specs.declared.Verdict.the-variants.{Counts, Refused}
+use Rattle.job.specs.declared.Reading.{Reading}
+use Rattle.job.specs.Number.{pick}
+use Rattle.job.specs.Job.{Edge, Job, blank}
+use Rattle.job.specs.Record.{Kind, rack, step, link, end, kindOf, bodyLength, empty, stands, full, inRange, endsRight, inOrder, added}
+
+-- a file is accepted as a job, or refused with a number of the refusal table
+pub data Answer : Type 0 where
+  accepted : Job → Answer
+  refused : ℕ → Answer
+
+-- after a record without trouble: at the end record no byte may be left (8), else `more` goes on past the body
+unfoldable pub after : Kind → List ℕ → Job → (ℕ → Job → Answer) → Answer
+after rack rest j more = more (bodyLength rack) (added j rack rest)
+after step rest j more = more (bodyLength step) (added j step rest)
+after link rest j more = more (bodyLength link) (added j link rest)
+after end rest j more = pick (empty rest) (accepted j) (refused 8)
+
+-- one record, of which `rest` follows the kind byte, after the job so far (01: "Within one: 2, 3, 5, 1, 4, 6, 7")
+unfoldable pub judged : Option Kind → List ℕ → Job → (ℕ → Job → Answer) → Answer
+judged none rest j more = refused 2
+judged (some k) rest j more =
+    pick (not (stands j k)) (refused 3)
+    (pick (full j k) (refused 5)
+    (pick (ltb (length rest) (bodyLength k)) (refused 1)
+    (pick (not (inRange k rest)) (refused 4)
+    (pick (not (endsRight j k rest)) (refused 6)
+    (pick (not (inOrder j k rest)) (refused 7)
+    (after k rest j more))))))
+
+-- 01: "Records are judged from the left, and the first trouble counts"; `skip` bytes of the body just judged are passed over
+unfoldable pub records : List ℕ → ℕ → Job → Answer
+records [] skip j = refused 1
+records (b ∷ rest) (suc skip) j = records rest skip j
+records (b ∷ rest) zero j = judged (kindOf b) rest j (records rest)
+
+-- the answer to a file
+unfoldable pub readJob : List ℕ → Answer
+readJob file = records file 0 blank
+
+-- an array of n places that begins with xs (01: "spare places of its arrays read as 0")
+unfoldable pub padded : ℕ → List ℕ → List ℕ
+padded n xs = xs ++ replicate (n - length xs) 0
+
+-- the answer as `read` returns it: the verdict beside the platform and the arrays, all 0 on a refusal
+unfoldable pub readingOf : Answer → Reading
+readingOf (accepted j) = record {
+  verdict = Counts (length (j .tasks)) (length (j .edges));
+  platform = j .platform;
+  durations = padded 256 (j .tasks);
+  from = padded 1024 (map (λ (e : Edge). e .from) (j .edges));
+  to = padded 1024 (map (λ (e : Edge). e .to) (j .edges));
+  counts = padded 1024 (map (λ (e : Edge). e .count) (j .edges));
+}
+readingOf (refused k) = record {
+  verdict = Refused k;
+  platform = record { processors = 0; topology = 0; unit = 0 };
+  durations = padded 256 [];
+  from = padded 1024 [];
+  to = padded 1024 [];
+  counts = padded 1024 [];
+}

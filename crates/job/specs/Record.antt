@@ -1,0 +1,118 @@
+-- The records of a job file, in the order of document 01's section "The job file": one definition each for the kinds,
+-- the length of a body, where a kind may stand, how many there may be, ranges, ends of a link, order of links.
+-- A `body` is what follows the kind byte; only the bytes that belong to it are looked at.
+use mathlib.Core.Bool.{Bool, true, false, not, _&&_, _||_}
+use mathlib.Core.List.{List, [], _∷_, _++_}
+use mathlib.Core.Option.{Option, none, some}
+use Prim.Native.Nat.{ℕ}
+use lib.Dec.{leb, ltb, eqb}
+use lib.ListN.{length, getD, take, drop}
+use Rattle.job.specs.declared.Platform.{Platform}
+use Rattle.job.specs.Number.{pick, number}
+use Rattle.job.specs.Job.{Edge, Job}
+
+-- 01: "kind | name"
+pub data Kind : Type 0 where
+  rack step link end : Kind
+
+-- the kind that a byte names
+unfoldable pub kindOf : ℕ → Option Kind
+kindOf b =
+    pick (eqb b 1) (some rack)
+    (pick (eqb b 2) (some step)
+    (pick (eqb b 3) (some link)
+    (pick (eqb b 4) (some end)
+    none)))
+
+-- 01: "a body whose length the kind fixes"
+unfoldable pub bodyLength : Kind → ℕ
+bodyLength rack = 3
+bodyLength step = 4
+bodyLength link = 4
+bodyLength end = 0
+
+-- 01: "boards n (1 byte), wiring (1 byte), unit cost c (1 byte)"
+unfoldable pub platformIn : List ℕ → Platform
+platformIn body = record { processors = getD body 0 0; topology = getD body 1 0; unit = getD body 2 0 }
+
+-- 01: "duration (4 bytes)"
+unfoldable pub durationIn : List ℕ → ℕ
+durationIn body = number (take 4 body)
+
+-- 01: "from (1 byte), to (1 byte), message count (2 bytes)"
+unfoldable pub edgeIn : List ℕ → Edge
+edgeIn body = record { from = getD body 0 0; to = getD body 1 0; count = number (take 2 (drop 2 body)) }
+
+abbrev pub empty : {A : Type 0} → List A → Bool
+empty [] = true
+empty (x ∷ xs) = false
+
+-- no rack has been read yet
+unfoldable pub noRack : Job → Bool
+noRack j = eqb (j .platform .processors) 0
+
+-- 01: "One rack, then 1 to 256 steps, then 0 to 1,024 links, then the end record": may the kind stand after what j holds
+unfoldable pub stands : Job → Kind → Bool
+stands j rack = noRack j
+stands j step = not (noRack j) && empty (j .edges)
+stands j link = not (empty (j .tasks))
+stands j end = not (empty (j .tasks))
+
+-- 01: "a step past 256 or a link past 1,024"
+unfoldable pub full : Job → Kind → Bool
+full j rack = false
+full j step = leb 256 (length (j .tasks))
+full j link = leb 1024 (length (j .edges))
+full j end = false
+
+-- 01: "n (1 to 16), wiring (0 flat, 1 cube, 2 ring), c (0 to 100)"
+unfoldable pub platformInRange : Platform → Bool
+platformInRange p = leb 1 (p .processors) && leb (p .processors) 16 && leb (p .topology) 2 && leb (p .unit) 100
+
+-- 01: "duration (1 to 1,000,000)"
+unfoldable pub durationInRange : ℕ → Bool
+durationInRange d = leb 1 d && leb d 1000000
+
+-- 01: "message count (1 to 1,000)"
+unfoldable pub countInRange : ℕ → Bool
+countInRange c = leb 1 c && leb c 1000
+
+-- each value of a record in its range
+unfoldable pub inRange : Kind → List ℕ → Bool
+inRange rack body = platformInRange (platformIn body)
+inRange step body = durationInRange (durationIn body)
+inRange link body = countInRange (edgeIn body .count)
+inRange end body = true
+
+-- 01: "A link has from below to and to below m"
+unfoldable pub joins : ℕ → Edge → Bool
+joins m e = ltb (e .from) (e .to) && ltb (e .to) m
+
+unfoldable pub endsRight : Job → Kind → List ℕ → Bool
+endsRight j rack body = true
+endsRight j step body = true
+endsRight j link body = joins (length (j .tasks)) (edgeIn body)
+endsRight j end body = true
+
+-- 01: "Links rise strictly by from, then by to"
+unfoldable pub rises : Edge → Edge → Bool
+rises a b = ltb (a .from) (b .from) || (eqb (a .from) (b .from) && ltb (a .to) (b .to))
+
+-- the link stands above the last one so far
+unfoldable pub aboveLast : List Edge → Edge → Bool
+aboveLast [] e = true
+aboveLast (a ∷ []) e = rises a e
+aboveLast (a ∷ b ∷ es) e = aboveLast (b ∷ es) e
+
+unfoldable pub inOrder : Job → Kind → List ℕ → Bool
+inOrder j rack body = true
+inOrder j step body = true
+inOrder j link body = aboveLast (j .edges) (edgeIn body)
+inOrder j end body = true
+
+-- the job with one record more
+unfoldable pub added : Job → Kind → List ℕ → Job
+added j rack body = record { platform = platformIn body; tasks = j .tasks; edges = j .edges }
+added j step body = record { platform = j .platform; tasks = j .tasks ++ (durationIn body ∷ []); edges = j .edges }
+added j link body = record { platform = j .platform; tasks = j .tasks; edges = j .edges ++ (edgeIn body ∷ []) }
+added j end body = j

@@ -1,0 +1,89 @@
+// The numbers of a record, and the trouble of one: its refusal's number among 4, 6 and 7, or 0 for none.
+ghost use mathlib.Core.Path.{_≡_};
+ghost use Prim.Native.Nat.{_+_, _*_, _≤_, _<_};
+ghost use lib.ListN.{length, take, drop};
+ghost use Rattle.job.specs.Number.{number};
+ghost use Rattle.job.specs.Pass.{edge, key, platformTrouble, stepTrouble, linkTrouble};
+
+fn wide(x: u8) -> u32
+    ensures { λ r. ⌜ (r ≡ x) × (r < 256) ⌝ }
+{
+    x as u32
+}
+
+// The number in the 2 bytes at `at`.
+pub fn number2(file: &[u8], at: usize) -> u16
+    requires { ⌜ at + 2 ≤ length (now file) ⌝ }
+    ensures { λ r. ⌜ r ≡ number (take 2 (drop at (now (file .entry)))) ⌝ }
+{
+    (wide(file[at]) + 256 * wide(file[at + 1])) as u16
+}
+
+// The number in the 4 bytes at `at`.
+pub fn number4(file: &[u8], at: usize) -> u32
+    requires { ⌜ at + 4 ≤ length (now file) ⌝ }
+    ensures { λ r. ⌜ r ≡ number (take 4 (drop at (now (file .entry)))) ⌝ }
+{
+    let low = wide(file[at]) + 256 * wide(file[at + 1]);
+    let high = wide(file[at + 2]) + 256 * wide(file[at + 3]);
+    low + 65536 * high
+}
+
+pub fn platform_trouble(processors: u8, topology: u8, unit: u8) -> u8
+    ensures { λ r. ⌜ r ≡ platformTrouble (record { processors = processors; topology = topology; unit = unit }) ⌝ }
+{
+    if processors < 1 {
+        return 4;
+    }
+    if 16 < processors {
+        return 4;
+    }
+    if 2 < topology {
+        return 4;
+    }
+    if 100 < unit {
+        return 4;
+    }
+    0
+}
+
+pub fn step_trouble(duration: u32) -> u8
+    ensures { λ r. ⌜ r ≡ stepTrouble duration ⌝ }
+{
+    if duration < 1 {
+        return 4;
+    }
+    if 1000000 < duration {
+        return 4;
+    }
+    0
+}
+
+// Edges rise by from, then by to, as their keys rise.
+pub fn key(from: u8, to: u8) -> u32
+    ensures { λ r. ⌜ (r ≡ 256 * from + to) × (r < 65536) ⌝ }
+{
+    256 * wide(from) + wide(to)
+}
+
+// `least` is the least key above the link before.
+pub fn link_trouble(from: u8, to: u8, count: u16, tasks: usize, least: u32) -> u8
+    ensures { λ r. ⌜ r ≡ linkTrouble tasks least (edge from to count) ⌝ }
+{
+    if count < 1 {
+        return 4;
+    }
+    if 1000 < count {
+        return 4;
+    }
+    if to <= from {
+        return 6;
+    }
+    if tasks <= to as usize {
+        return 6;
+    }
+    if key(from, to) < least {
+        return 7;
+    }
+    0
+}
