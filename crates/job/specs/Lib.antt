@@ -3,4 +3,8 @@ pub mod Job
 pub mod Record
 pub mod Read
 pub mod Write
+pub mod Accepted
+pub mod Refusal
+pub mod RoundTrip
 pub mod Pass
+pub mod Laws
