@@ -4,11 +4,13 @@ use mathlib.Core.Logic.{_⊎_, inl, inr}
 use mathlib.Core.Path.{_≡_, refl, ap, _∙_, sym}
 use mathlib.Core.List.{List, [], _∷_}
 use Prim.Native.Nat.{ℕ, zero, suc, _+_, _*_, _/_, _%_, _^_, _<_, _≤_}
-use native.Mathlib.Nat.{pow-succ', not-suc-le-zero}
+use native.Mathlib.Nat.{pow-succ'}
+use native.Mathlib.Numerals.{add-one}
 use native.Mathlib.Omega.{arith}
 use borrow.Author.Tests.{ltb-true, ltb-false}
 use lib.Dec.{ltb}
-use lib.ListN.{length, getD}
+use lib.ListN.{length, getD, take, drop}
+use lib.Seq.{drop-cons}
 use Rattle.job.specs.Number.{number, bytes}
 
 -- a number is below another or not
@@ -51,3 +53,29 @@ bytes-number (b ∷ bs) (more h r) =
     let e : (b + 256 * number bs) % 256 ≡ b = omega arith in
     let d : (b + 256 * number bs) / 256 ≡ number bs = omega arith in
     rw (e, d) (ap (λ (l : List ℕ). b ∷ l) (bytes-number bs r))
+
+-- the number at a place of a file, byte by byte
+number-from : (k : ℕ) (l : List ℕ) (at : ℕ) → at < length l →
+    number (take (suc k) (drop at l)) ≡ getD l at 0 + 256 * number (take k (drop (at + 1) l))
+unfolding number
+number-from k l at h = rw (add-one, drop-cons l at 0 h)
+
+pub number-2 : (l : List ℕ) (at : ℕ) → at + 2 ≤ length l → number (take 2 (drop at l)) ≡ getD l at 0 + 256 * getD l (at + 1) 0
+unfolding number
+number-2 l at h =
+    let a = number-from 1 l at (omega arith) in
+    let b = number-from 0 l (at + 1) (omega arith) in
+    omega arith
+
+pub number-4 : (l : List ℕ) (at : ℕ) → at + 4 ≤ length l →
+    number (take 4 (drop at l)) ≡ getD l at 0 + 256 * getD l (at + 1) 0 + 65536 * (getD l (at + 2) 0 + 256 * getD l (at + 3) 0)
+unfolding number
+number-4 l at h =
+    let a = number-from 3 l at (omega arith) in
+    let b = number-from 2 l (at + 1) (omega arith) in
+    let e : at + 1 + 1 ≡ at + 2 = omega arith in
+    let d : number (take 2 (drop (at + 1 + 1) l)) ≡ number (take 2 (drop (at + 2) l)) = ap (λ (i : ℕ). number (take 2 (drop i l))) e in
+    let f = number-2 l (at + 2) (omega arith) in
+    let g : at + 2 + 1 ≡ at + 3 = omega arith in
+    let k : getD l (at + 2 + 1) 0 ≡ getD l (at + 3) 0 = ap (λ (i : ℕ). getD l i 0) g in
+    omega arith
