@@ -6,7 +6,7 @@ use mathlib.Core.Option.{Option, none, some}
 use Prim.Native.Nat.{ℕ, zero, suc, _+_, _*_, _<_, _≤_}
 use mathlib.Core.Logic.{⊎-elim}
 use native.Mathlib.Omega.{arith}
-use borrow.Author.Tests.{lt-ltb, le-ltb, le-leb, lt-leb, eq-eqb, ne-eqb}
+use borrow.Author.Tests.{lt-ltb, le-ltb, le-leb, lt-leb, leb-true, eq-eqb, ne-eqb}
 use lib.Dec.{ltb, leb, eqb, leb·zero}
 use lib.ListN.{length, getD, drop, drop-of-length-le}
 use lib.Seq.{drop-cons}
@@ -74,6 +74,15 @@ pub rack-at : (rest : List ℕ) (more : ℕ → Job → Answer) → 3 ≤ length
     judged (some rack) rest blank more ≡ passOr (platformTrouble (platformIn rest)) (more 3 (jobOf (platformIn rest) [] []))
 unfolding stands noRack full inRange endsRight inOrder after added bodyLength blank platformTrouble
 rack-at rest more h = whole rack rest blank more refl refl h ∙ rack-taken (platformInRange (platformIn rest)) _
+
+-- a rack without trouble has a processor
+pub rack-fits : (p : Platform) → platformTrouble p ≡ 0 → 1 ≤ p .processors
+unfolding platformTrouble platformInRange
+rack-fits p = go (leb 1 (p .processors)) refl
+  where
+    go : (t : Bool) → leb 1 (p .processors) ≡ t → _≡_ {A = ℕ} (pick (t && leb (p .processors) 16 && leb (p .topology) 2 && leb (p .unit) 100) 0 4) 0 → 1 ≤ p .processors
+    go true e h = leb-true 1 (p .processors) e
+    go false e h = omega arith
 
 module _ (rest : List ℕ) (p : Platform) (ts : List ℕ) (more : ℕ → Job → Answer) (n : 1 ≤ p .processors) where
   some-rack : eqb (p .processors) 0 ≡ false
