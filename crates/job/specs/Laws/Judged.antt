@@ -9,7 +9,7 @@ use native.Mathlib.Omega.{arith}
 use borrow.Author.Tests.{lt-ltb, le-ltb, le-leb, lt-leb, leb-true, eq-eqb, ne-eqb}
 use lib.Dec.{ltb, leb, eqb, leb·zero}
 use lib.ListN.{length, getD, drop, drop-of-length-le}
-use lib.Seq.{drop-cons}
+use lib.Seq.{drop-cons, drop-drop}
 use Rattle.job.specs.declared.Platform.{Platform}
 use Rattle.job.specs.Number.{pick}
 use Rattle.job.specs.Job.{Edge, Job, blank}
@@ -161,3 +161,9 @@ module _ (rest : List ℕ) (p : Platform) (t : ℕ) (ts : List ℕ) (es : List E
       passOr (linkTrouble (length (t ∷ ts)) least (edgeIn rest)) (more 4 (jobOf p (t ∷ ts) (es ++ (edgeIn rest ∷ []))))
   unfolding full stands bodyLength inRange endsRight inOrder after added linkTrouble
   link-at least h s o = whole link rest (jobOf p (t ∷ ts) es) more refl (lt-leb _ _ h) s ∙ link-taken (countInRange (edgeIn rest .count)) (joins (length (t ∷ ts)) (edgeIn rest)) _ (ltb (key (edgeIn rest)) least) _ (o ∙ not-below least (key (edgeIn rest)))
+
+-- after a body of 4 bytes, 5 bytes on
+pub past-body : (file : List ℕ) (at : ℕ) (j : Job) → records (drop (suc at) file) 4 j ≡ records (drop (at + 5) file) 0 j
+past-body file at j =
+    let e : suc at + 4 ≡ at + 5 = omega arith in
+    skip (drop (suc at) file) 4 j ∙ ap (λ (l : List ℕ). records l 0 j) (drop-drop 4 (suc at) file ∙ ap (λ (n : ℕ). drop n file) e)
