@@ -3,3 +3,4 @@ pub mod Number
 pub mod Judged
 pub mod Kinds
 pub mod Spare
+pub mod Edges
