@@ -77,7 +77,7 @@ module _ (file from to counts : List ℕ) (m l at least : ℕ) (g : Going file f
   module _ (h : at < length file) where
     other : (getD file at 0 ≡ 3 → ⊥) → LinksPassed file m from to counts (Count l)
     other k =
-        (g .few, rw (g .place) at h, rw (g .place) at k, g .spare-from, g .spare-to, g .spare-counts, λ p ts e. rw (g .place) at (g .same p ts e))
+        (g .few, rw (g .place) at h, rw (g .place) at k, g .long-from, g .long-to, g .long-counts, g .spare-from, g .spare-to, g .spare-counts, λ p ts e. rw (g .place) at (g .same p ts e))
 
     module _ (tasked : 1 ≤ m) (k : getD file at 0 ≡ 3) where
       -- what the record at this place comes to, after any m steps, of which there is one

@@ -8,8 +8,8 @@ use lib.ListN.{length, getD, drop, length-drop}
 use lib.Seq.{getD-drop, drop-drop}
 use Rattle.job.specs.Job.{blank}
 use Rattle.job.specs.Record.{Kind, rack, step, link, end, kindOf, bodyLength, noRack, stands, full, platformIn}
-use Rattle.job.specs.Read.{Answer, refused, records, readJob}
-use Rattle.job.specs.Pass.{RackPassed, jobOf, platformTrouble, misplacedNumber}
+use Rattle.job.specs.Read.{refused, records, readJob}
+use Rattle.job.specs.Pass.{RackPassed, jobOf, platformAt, platformTrouble, misplacedNumber}
 use Rattle.job.specs.Laws.Judged.{skip, at-record, at-end, passOr, passes, stops, short, rack-at, rack-fits}
 use Rattle.job.specs.Laws.Kinds.{kindByte, misplaced-at, misplaced-some}
 use borrow.Author.Needs.{needs}
@@ -57,26 +57,27 @@ module _ (file : List ℕ) where
       (at-record file 0 blank h ∙ rw i (short rack (drop 1 file) blank (records (drop 1 file)) refl refl (simp length-drop (omega arith))))
 
   module _ (i : getD file 0 0 ≡ 1) (h : 4 ≤ length file) where
-    platform-is : platformIn (drop 1 file) ≡ record { processors = getD file 1 0; topology = getD file 2 0; unit = getD file 3 0 }
+    platform-is : platformIn (drop 1 file) ≡ platformAt file
     unfolding platformIn
     platform-is = simp getD-drop
 
-    read : readJob file ≡ passOr (platformTrouble (platformIn (drop 1 file))) (records (drop 4 file) 0 (jobOf (platformIn (drop 1 file)) [] []))
+    read-there : readJob file ≡ passOr (platformTrouble (platformIn (drop 1 file))) (records (drop 4 file) 0 (jobOf (platformIn (drop 1 file)) [] []))
     unfolding readJob kindOf
-    read =
+    read-there =
         at-record file 0 blank (omega arith) ∙ rw i (rack-at (drop 1 file) (records (drop 1 file)) (simp length-drop (omega arith)))
-        ∙ ap (λ (a : Answer). passOr (platformTrouble (platformIn (drop 1 file))) a)
-          (skip (drop 1 file) 3 (jobOf (platformIn (drop 1 file)) [] []) ∙ ap (λ (l : List ℕ). records l 0 (jobOf (platformIn (drop 1 file)) [] [])) (drop-drop 3 1 file))
+        ∙ ap (passOr (platformTrouble (platformIn (drop 1 file))))
+          (skip (drop 1 file) 3 _ ∙ ap (λ (l : List ℕ). records l 0 (jobOf (platformIn (drop 1 file)) [] [])) (drop-drop 3 1 file))
 
-    judged-rack : (n : ℕ) → n ≡ platformTrouble (record { processors = getD file 1 0; topology = getD file 2 0; unit = getD file 3 0 }) → RackPassed file n
-    judged-rack n e =
-        let e′ : n ≡ platformTrouble (platformIn (drop 1 file)) = e ∙ sym (ap platformTrouble platform-is) in
-        record {
-          refuses = λ z. read ∙ rw (← e′) (stops n _ z);
-          whole = λ z. h;
-          some-processor = λ z. rack-fits _ (sym e ∙ z);
-          goes-on = λ z. read ∙ passes _ _ (sym e′ ∙ z);
-        }
+    read : readJob file ≡ passOr (platformTrouble (platformAt file)) (records (drop 4 file) 0 (jobOf (platformAt file) [] []))
+    read = rw platform-is at read-there
+
+    judged-rack : (n : ℕ) → n ≡ platformTrouble (platformAt file) → RackPassed file n
+    judged-rack n e = record {
+      refuses = λ z. read ∙ rw (← e) (stops n _ z);
+      whole = λ z. h;
+      some-processor = λ z. rack-fits _ (sym e ∙ z);
+      goes-on = λ z. read ∙ passes _ _ (sym e ∙ z);
+    }
 
 returns : tie.Need-returns
 returns c = nothing _ (c .if1 .taken)

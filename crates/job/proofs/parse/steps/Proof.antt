@@ -52,7 +52,7 @@ module _ (file durations : List ℕ) (m at : ℕ) (g : Going file durations m at
   module _ (h : at < length file) where
     other : (getD file at 0 ≡ 2 → ⊥) → StepsPassed file durations (Count m)
     other k =
-        (g .few, rw (g .place) at h, rw (g .place) at k, g .spare, λ p n. rw (g .place) at (g .same p n))
+        (g .few, rw (g .place) at h, rw (g .place) at k, g .long, g .spare, λ p n. rw (g .place) at (g .same p n))
 
     module _ (k : getD file at 0 ≡ 2) where
       record-is : (p : Platform) → 1 ≤ p .processors → records (drop 4 file) 0 (jobOf p [] []) ≡ judged (some step) (drop (suc at) file) (jobOf p (take m durations) []) (records (drop (suc at) file))
