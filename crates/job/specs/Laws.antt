@@ -2,3 +2,5 @@
 pub mod Number
 pub mod Judged
 pub mod Turn
+pub mod Lists
+pub mod Halt
