@@ -3,25 +3,26 @@
 use mathlib.Core.Bool.{Bool, true, false, _||_}
 use mathlib.Core.Logic.{_⊎_, inl, inr}
 use mathlib.Core.Path.{_≡_, refl, ap, _∙_}
-use mathlib.Core.List.{List, [], _∷_}
+use mathlib.Core.List.{List, _∷_}
 use mathlib.Core.Option.{Option, some}
 use Prim.Native.Nat.{ℕ, suc, _+_, _≤_, _<_}
 use native.Mathlib.Omega.{arith}
 use borrow.Author.Tests.{ltb-true}
 use lib.Dec.{ltb}
 use lib.ListN.{length, getD, drop, length-drop}
-use lib.Seq.{drop-drop}
+use lib.Seq.{drop-cons, drop-drop}
 use Rattle.job.specs.declared.Written.{Written}
 use Rattle.job.specs.declared.Written.the-variants.{Length, Refused}
 use Rattle.job.specs.Number.{pick}
-use Rattle.job.specs.Job.{Job}
+use Rattle.job.specs.Job.{Job, blank}
 use Rattle.job.specs.Record.{Kind, rack, step, link, end, kindOf, bodyLength, added}
-use Rattle.job.specs.Read.{Answer, accepted, refused, after, judged, records, readJob}
+use Rattle.job.specs.Read.{Answer, accepted, refused, after, records, readJob}
 use Rattle.job.specs.Write.{roomFor}
 use Rattle.job.specs.Cause.{Cause, cut, unknown, misplaced, out-of-range, too-many, bad-ends, not-above, bytes-after}
 use Rattle.job.specs.Laws.Judged.{skip, whole}
-use Rattle.job.specs.Laws.Turn.{Fits, Reads, no-more, halted, past, closed}
+use Rattle.job.specs.Laws.Turn.{Fits, Reads, no-more, halted, past, closed, reads}
 use Rattle.job.specs.Laws.Lists.{at-place}
+use Rattle.job.specs.Laws.Tests.{never}
 
 -- after a record without trouble that has a body, what is left to judge stands past the body
 passed : (k : Kind) (rest : List ℕ) (j : Job) (more : ℕ → Job → Answer) → 1 ≤ bodyLength k → after k rest j more ≡ more (bodyLength k) (added j k rest)
@@ -37,21 +38,40 @@ unfolding records
 onward b rest j k e h f = rw e (whole k rest j (records rest) (f .placed) (f .room) (f .whole)
     ∙ simp (f .ranges, f .ends, f .order) (passed k rest j (records rest) h ∙ skip rest (bodyLength k) (added j k rest)))
 
--- a refusal of a file: its place, the job so far, and the cause
+-- the reader comes to this place of the file with this job so far, past records without trouble
+pub data Reached (file : List ℕ) : ℕ → Job → Type 0 where
+  start : Reached file 0 blank
+  next : {at : ℕ} {j : Job} (k : Kind) → Reached file at j → at < length file → kindOf (getD file at 0) ≡ some k → 1 ≤ bodyLength k →
+      Fits (drop (suc at) file) j k → Reached file (suc at + bodyLength k) (added j k (drop (suc at) file))
+
+pub reached-answer : (file : List ℕ) {at : ℕ} {j : Job} → Reached file at j → readJob file ≡ records (drop at file) 0 j
+unfolding readJob
+reached-answer file start = refl
+reached-answer file (next {at} {j} k r l t h f) =
+    reached-answer file r ∙ rw (drop-cons file at 0, ← drop-drop) (onward (getD file at 0) (drop (suc at) file) j k t h f)
+
+-- a refusal: it comes at a place reached, where the file ends or the record has the number's cause
 abbrev pub Halt : List ℕ → ℕ → Type 0
-Halt file n = (at : ℕ) × (j : Job) × (readJob file ≡ records (drop at file) 0 j)
+Halt file n = (at : ℕ) × (j : Job) × Reached file at j
     × (((length file ≤ at) × (n ≡ 1)) ⊎ ((at < length file) × Cause (drop (suc at) file) j (kindOf (getD file at 0)) n))
 
-pub halt : (file : List ℕ) (n : ℕ) {xs : List ℕ} {j : Job} {a : Answer} → Reads xs j a → (at : ℕ) → drop at file ≡ xs →
-    readJob file ≡ records xs 0 j → a ≡ refused n → Halt file n
-halt file n (no-more {j}) at q r e = (at, j, rw q r, inl (omega (arith, simp length-drop at (ap length q)), cc))
+halt : (file : List ℕ) (n : ℕ) {xs : List ℕ} {j : Job} {a : Answer} → Reads xs j a → (at : ℕ) → drop at file ≡ xs →
+    Reached file at j → a ≡ refused n → Halt file n
+halt file n (no-more {j}) at q r e = (at, j, r, inl (omega (arith, simp length-drop at (ap length q)), cc))
 halt file n (halted {b} {rest} {j} {n = m} c) at q r e =
     let p = at-place file at b rest q in
     let i : n ≡ m = cc in
-    (at, j, rw q r, inr (p .0, rw (p .2, p .1, i) c))
+    (at, j, r, inr (p .0, rw (p .2, p .1, i) c))
 halt file n (past {b} {rest} {j} k t h f s) at q r e =
-    halt file n s (suc at + bodyLength k) (rw (← drop-drop, at-place file at b rest q .2)) (r ∙ onward b rest j k t h f) e
-halt file n (closed t f h) at q r e = let z : _≡_ {A = ℕ} 0 1 = cc in let n : ⊥ = omega arith in absurd n
+    let p = at-place file at b rest q in
+    let t′ : kindOf (getD file at 0) ≡ some k = rw (p .1) t in
+    let f′ : Fits (drop (suc at) file) j k = rw (p .2) f in
+    halt file n s (suc at + bodyLength k) (rw (← drop-drop, p .2)) (rw (p .2) at (next k r (p .0) t′ h f′)) e
+halt file n (closed t f h) at q r e = let z : false ≡ true = cc in never z
+
+pub halts-at : (file : List ℕ) (n : ℕ) → readJob file ≡ refused n → Halt file n
+unfolding readJob
+halts-at file n e = halt file n (reads file 0 blank) 0 refl start e
 
 -- the numbers of causes are 1 to 8
 pub cause-number : {rest : List ℕ} {j : Job} {o : Option Kind} {n : ℕ} → Cause rest j o n → (1 ≤ n) × (n ≤ 8)
