@@ -4,3 +4,8 @@ pub mod Judged
 pub mod Kinds
 pub mod Spare
 pub mod Edges
+pub mod Tests
+pub mod Turn
+pub mod Lists
+pub mod Halt
+pub mod Kept
