@@ -6,7 +6,7 @@ use Prim.Native.Nat.{ℕ, zero, suc, _-_, _≤_, _<_}
 use native.Mathlib.Omega.{arith}
 use lib.ListN.{length, getD, drop, replicate, length-append, length-replicate, List·getD-map, List·getD-eq-default, length-map}
 use Rattle.job.specs.Job.{Edge}
-use Rattle.job.specs.Record.{rises, aboveLast}
+use Rattle.job.specs.Record.{empty, rises, aboveLast}
 use Rattle.job.specs.Read.{padded}
 use Rattle.job.specs.Laws.Tests.{never}
 
@@ -68,3 +68,12 @@ module _ (f : Edge → ℕ) (d : Edge) (z : f d ≡ 0) (es : List Edge) where
 
   pub column-spare : (i : ℕ) → length es ≤ i → getD (padded 1024 (map f es)) i 0 ≡ 0
   column-spare i h = column-at i ∙ ap f (List·getD-eq-default es d h) ∙ z
+
+-- a list is empty if its length is 0, and only then
+pub empty-is : {A : Type 0} (xs : List A) → length xs ≡ 0 → empty xs ≡ true
+empty-is [] h = refl
+empty-is (x ∷ xs) h = let n : ⊥ = omega arith in absurd n
+
+pub empty-not : {A : Type 0} (xs : List A) → (length xs ≡ 0 → ⊥) → empty xs ≡ false
+empty-not [] h = absurd (h refl)
+empty-not (x ∷ xs) h = refl
