@@ -1,3 +1,4 @@
 -- What follows from the definitions and serves the proofs; a reader of the contracts needs none of it.
 pub mod Number
 pub mod Judged
+pub mod Encoded
