@@ -2,3 +2,4 @@
 pub mod Number
 pub mod Judged
 pub mod Encoded
+pub mod Turn

@@ -4,6 +4,7 @@ pub mod Record
 pub mod Read
 pub mod Write
 pub mod Accepted
+pub mod Cause
 pub mod Refusal
 pub mod RoundTrip
 pub mod Pass

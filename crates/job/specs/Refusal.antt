@@ -1,27 +1,15 @@
 -- Each refusal number comes only with its condition.
-use mathlib.Core.Bool.{false, true}
 use mathlib.Core.Logic.{_⊎_}
 use mathlib.Core.Path.{_≡_}
 use mathlib.Core.List.{List}
-use mathlib.Core.Option.{Option, none, some}
 use Prim.Native.Nat.{ℕ, suc, _≤_, _<_}
 use lib.ListN.{length, getD, drop}
 use Rattle.job.specs.declared.Written.the-variants.{Length, Refused}
 use Rattle.job.specs.Job.{Job}
-use Rattle.job.specs.Record.{Kind, end, kindOf, bodyLength, empty, stands, full, inRange, endsRight, inOrder}
+use Rattle.job.specs.Record.{kindOf}
 use Rattle.job.specs.Read.{refused, records, readJob}
+use Rattle.job.specs.Cause.{Cause}
 use Rattle.job.specs.Write.{writeAnswer, fileLength, fileOf}
-
--- why a record of this kind, with `rest` after its kind byte, is refused after the job so far (01: the refusal table)
-pub data Cause (rest : List ℕ) (j : Job) : Option Kind → ℕ → Type 0 where
-  cut : {k : Kind} → length rest < bodyLength k → Cause rest j (some k) 1
-  unknown : Cause rest j none 2
-  misplaced : {k : Kind} → stands j k ≡ false → Cause rest j (some k) 3
-  out-of-range : {k : Kind} → inRange k rest ≡ false → Cause rest j (some k) 4
-  too-many : {k : Kind} → full j k ≡ true → Cause rest j (some k) 5
-  bad-ends : {k : Kind} → endsRight j k rest ≡ false → Cause rest j (some k) 6
-  not-above : {k : Kind} → inOrder j k rest ≡ false → Cause rest j (some k) 7
-  bytes-after : empty rest ≡ false → Cause rest j (some end) 8
 
 -- the reader refuses at a place that it has come to with the job so far: there the file ends (1), or the record has the number's cause
 pub read-refused : (file : List ℕ) (n : ℕ) → readJob file ≡ refused n →
