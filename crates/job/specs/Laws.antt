@@ -3,3 +3,5 @@ pub mod Number
 pub mod Judged
 pub mod Encoded
 pub mod Turn
+pub mod Written
+pub mod Held

@@ -26,7 +26,7 @@ pass-first a b x = go (eqb a 0) refl
     go false e = simp e
 
 -- the number is the one whose bytes stand there
-number-read : (k x : ℕ) (tail : List ℕ) → x < 256 ^ k → number (take k (bytes k x ++ tail)) ≡ x
+pub number-read : (k x : ℕ) (tail : List ℕ) → x < 256 ^ k → number (take k (bytes k x ++ tail)) ≡ x
 number-read k x tail h = rw (take-at (bytes k x) tail k (length-bytes k x)) (number-bytes k x h)
 
 pub read-rack : (p : Platform) (tail : List ℕ) → records (rackBytes p ++ tail) 0 blank ≡ passOr (platformTrouble p) (records tail 0 (jobOf p [] []))
