@@ -5,3 +5,5 @@ pub mod Encoded
 pub mod Turn
 pub mod Written
 pub mod Held
+pub mod Rewritten
+pub mod Prefix

@@ -10,10 +10,13 @@ use Rattle.job.specs.declared.Written.the-variants.{Length, Refused}
 use Rattle.job.specs.Job.{Job}
 use Rattle.job.specs.Read.{Answer, accepted, readJob, padded, readingOf}
 use Rattle.job.specs.Write.{fileOf, fileLength, edgesOf, heldJob, writeAnswer, writeOut}
+use Rattle.job.specs.Accepted.{Accepted, accepted-job}
 use Rattle.job.specs.Pass.{edge}
 use Rattle.job.specs.Laws.Number.{Bytes}
 use Rattle.job.specs.Laws.Written.{file-size, read-back}
 use Rattle.job.specs.Laws.Held.{edges-length, counts-in, all-taken, edges-back}
+use Rattle.job.specs.Laws.Rewritten.{written-back}
+use Rattle.job.specs.Laws.Prefix.{first-bytes}
 
 -- the file has as many bytes as document 01 says
 pub file-length : (j : Job) → length (fileOf j) ≡ fileLength (length (j .tasks)) (length (j .edges))
@@ -52,8 +55,10 @@ read-held file j e = rw (take-append-seam, edges-back)
 pub read-written : (file : List ℕ) (j : Job) (out : List ℕ) → Bytes file → readJob file ≡ accepted j → length file ≤ length out →
     (writeAnswer (length (j .tasks)) (length (j .edges)) j out ≡ Length (length file))
     × (writeOut (Length (length file)) j out ≡ file ++ drop (length file) out)
-read-written file j out b e h = ?
+read-written file j out b e h =
+    let a : Accepted j = accepted-job file j e in
+    written-back file j out b e h (a .few-tasks) (a .few-edges)
 
 -- the answer to a file is settled by its first 6,406 bytes
 pub settled : (file : List ℕ) → readJob (take 6406 file) ≡ readJob file
-settled file = ?
+settled file = first-bytes file

@@ -62,7 +62,8 @@ takes m l n j out e = go (ltb 256 m) (ltb 1024 l) (readJob (fileOf j)) (ltb (len
         let z : n ≡ fileLength m l = cc in
         record { few-tasks = ltb-false _ _ hs; few-edges = ltb-false _ _ ht; size = z; room = omega (arith, ltb-false (length out) (fileLength m l) hr); job = i; read = ha }
 
-refuse-accept : (n : ℕ) (i : Job) → refused n ≡ accepted i → ⊥
+-- a refused file is not accepted
+pub refuse-accept : (n : ℕ) (i : Job) → refused n ≡ accepted i → ⊥
 refuse-accept n i e = let z : _≡_ {A = ℕ} 0 1 = cc in omega arith
 
 -- an accepted file is accepted past a record
