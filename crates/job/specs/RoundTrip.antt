@@ -6,9 +6,9 @@ use native.Mathlib.Omega.{arith}
 use lib.ListN.{length, getD, take, drop}
 use lib.Seq.{length-take-le, take-append-seam}
 use Rattle.job.specs.declared.Platform.{Platform}
-use Rattle.job.specs.declared.Written.the-variants.{Length, Refused}
+use Rattle.job.specs.declared.Written.the-variants.{Length}
 use Rattle.job.specs.Job.{Job}
-use Rattle.job.specs.Read.{Answer, accepted, readJob, padded, readingOf}
+use Rattle.job.specs.Read.{accepted, readJob, padded, readingOf}
 use Rattle.job.specs.Write.{fileOf, fileLength, edgesOf, heldJob, writeAnswer, writeOut}
 use Rattle.job.specs.Accepted.{Accepted, accepted-job}
 use Rattle.job.specs.Pass.{edge}

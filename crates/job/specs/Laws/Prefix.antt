@@ -17,7 +17,7 @@ use Rattle.job.specs.Record.{Kind, rack, step, link, end, kindOf, bodyLe
 use Rattle.job.specs.Read.{Answer, refused, after, judged, records, readJob}
 use Rattle.job.specs.Laws.Number.{lt-or-ge}
 use Rattle.job.specs.Laws.Judged.{misplaced, crowded}
-use Rattle.job.specs.Laws.Rewritten.{some-processor}
+use Rattle.job.specs.Laws.Tests.{platform-facts}
 
 -- the most bytes that the records after the job so far have, and one byte after the end record
 need : Job → ℕ
@@ -65,6 +65,7 @@ same n rest j step h = let e : durationIn (take n rest) ≡ durationIn rest = du
 same n rest j link h = let e : edgeIn (take n rest) ≡ edgeIn rest = edge-prefix n rest h in record { range = rw e; joint = rw e; order = rw e; more = rw e }
 same n rest j end h = record { range = refl; joint = refl; order = refl; more = refl }
 
+-- the tests lead to the same answer, if what follows them is the same
 through : (s f l r e o : Bool) (x y : Answer) → (r ≡ true → x ≡ y) →
     pick (not s) (refused 3) (pick f (refused 5) (pick l (refused 1) (pick (not r) (refused 4) (pick (not e) (refused 6) (pick (not o) (refused 7) x)))))
     ≡ pick (not s) (refused 3) (pick f (refused 5) (pick l (refused 1) (pick (not r) (refused 4) (pick (not e) (refused 6) (pick (not o) (refused 7) y)))))
@@ -88,7 +89,7 @@ module _ (n : ℕ) (rest : List ℕ) (j : Job) (h : need j ≤ suc n)
   left-inside : (k : Kind) → stands j k ≡ true → full j k ≡ false → inRange k rest ≡ true → 1 ≤ bodyLength k → bodyLength k + need (added j k rest) ≤ n
   unfolding need stands full bodyLength inRange added noRack
   left-inside rack s f r b =
-      let p : 1 ≤ platformIn rest .processors = some-processor (platformIn rest) r in
+      let p : 1 ≤ platformIn rest .processors = platform-facts (platformIn rest) r .0 in
       rw (ne-eqb (platformIn rest .processors) 0 (λ z. omega arith)) (omega (arith, rw s at h))
   left-inside step s f r b = rw (length-append (j .tasks) (durationIn rest ∷ [])) (omega (arith, leb-false 256 (length (j .tasks)) f))
   left-inside link s f r b = rw (length-append (j .edges) (edgeIn rest ∷ [])) (omega (arith, leb-false 1024 (length (j .edges)) f))
@@ -119,6 +120,7 @@ module _ (n : ℕ) (rest : List ℕ) (j : Job) (h : need j ≤ suc n)
           rw (short-prefix (bodyLength k) n rest b, e .range, e .joint, e .order)
           (through (stands j k) (full j k) (ltb (length rest) (bodyLength k)) (inRange k rest) (endsRight j k rest) (inOrder j k rest) _ _ (after-same k hs hf))
 
+-- so many bytes are enough
 enough : (xs : List ℕ) (s n : ℕ) (j : Job) → s + need j ≤ n → records (take n xs) s j ≡ records xs s j
 unfolding records need
 enough [] s n j h = rw (take-nil {A = ℕ} n)

@@ -1,11 +1,11 @@
 -- An accepted file is the file of its job: by induction on the chain of turns, the bytes read so far are the records of the job so far, since a number's bytes are those
 -- that it was read from.
-use mathlib.Core.Bool.{Bool, true, false, not, _&&_}
+use mathlib.Core.Bool.{true, false, not}
 use mathlib.Core.Path.{_≡_, refl, ap, _∙_, sym}
 use mathlib.Core.List.{List, [], _∷_, _++_, append-assoc, append-nil, flatMap}
 use Prim.Native.Nat.{ℕ, zero, suc, _≤_}
 use native.Mathlib.Omega.{arith}
-use borrow.Author.Tests.{eqb-true, leb-true, le-ltb}
+use borrow.Author.Tests.{eqb-true, le-ltb}
 use lib.Dec.{eqb}
 use lib.ListN.{length, take, drop, take-append-drop}
 use lib.Seq.{length-take-le}
@@ -13,12 +13,13 @@ use Rattle.job.specs.declared.Platform.{Platform}
 use Rattle.job.specs.declared.Written.the-variants.{Length}
 use Rattle.job.specs.Number.{number, bytes}
 use Rattle.job.specs.Job.{Edge, Job, blank}
-use Rattle.job.specs.Record.{Kind, rack, step, link, end, bodyLength, noRack, stands, inRange, added, platformIn, durationIn, edgeIn, platformInRange}
+use Rattle.job.specs.Record.{Kind, rack, step, link, end, bodyLength, noRack, stands, inRange, added, platformIn, durationIn, edgeIn}
 use Rattle.job.specs.Read.{Answer, accepted, readJob}
 use Rattle.job.specs.Write.{rackBytes, stepBytes, linkBytes, fileOf, fileLength, roomFor, writeAnswer, writeOut}
 use Rattle.job.specs.Pass.{jobOf}
 use Rattle.job.specs.Laws.Number.{Bytes, none, more, bytes-number}
-use Rattle.job.specs.Laws.Written.{file-size, refuse-accept}
+use Rattle.job.specs.Laws.Tests.{never, both, platform-facts}
+use Rattle.job.specs.Laws.Written.{file-size}
 use Rattle.job.specs.Laws.Turn.{Fits, code, kind-code, Reads, no-more, halted, past, closed, reads}
 
 -- the job so far, and the bytes that it was read from
@@ -40,6 +41,7 @@ bytes-drop (suc n) (b ∷ bs) (more h r) = bytes-drop n bs r
 bytes-back : (k : ℕ) (bs : List ℕ) → Bytes bs → k ≤ length bs → bytes k (number (take k bs)) ≡ take k bs
 bytes-back k bs h l = rw (length-take-le k bs l) at (bytes-number (take k bs) (bytes-take k bs h))
 
+-- each record's bytes are those that its values were read from
 rack-bytes : (rest : List ℕ) → 3 ≤ length rest → rackBytes (platformIn rest) ≡ 1 ∷ take 3 rest
 unfolding rackBytes platformIn
 rack-bytes [] h = absurd (omega arith)
@@ -62,37 +64,26 @@ unfolding flatMap
 flatMap-more f [] x = append-nil (f x)
 flatMap-more f (y ∷ xs) x = rw (flatMap-more f xs x) (sym (append-assoc (f y) (flatMap f xs) (f x)))
 
-never : {A : Type 0} → false ≡ true → A
-never e = let z : _≡_ {A = ℕ} 0 1 = cc in absurd (omega arith)
-
-and-left : (a b : Bool) → a && b ≡ true → a ≡ true
-and-left true b e = refl
-and-left false b e = e
-
-and-right : (a b : Bool) → a && b ≡ true → b ≡ true
-and-right true b e = e
-and-right false b e = never e
-
-pub some-processor : (p : Platform) → platformInRange p ≡ true → 1 ≤ p .processors
-unfolding platformInRange
-some-processor p e = leb-true 1 (p .processors) (and-left _ _ (and-left _ _ (and-left _ _ e)))
-
 -- one record more
 grown : (k : Kind) (rest : List ℕ) (j : Job) (bs : List ℕ) → 1 ≤ bodyLength k → Bytes rest → Fits rest j k → Reached j bs →
     Reached (added j k rest) (bs ++ (code k ∷ take (bodyLength k) rest))
 unfolding bodyLength added stands noRack inRange blank flatMap
-grown rack rest j bs h b f start = rw (← rack-bytes rest (f .whole)) (rw (append-nil (rackBytes (platformIn rest))) at (under-way (platformIn rest) [] [] (some-processor (platformIn rest) (f .ranges))))
+grown rack rest j bs h b f start =
+    let p : Platform = platformIn rest in
+    rw (← rack-bytes rest (f .whole)) (rw (append-nil (rackBytes p)) at (under-way p [] [] (platform-facts p (f .ranges) .0)))
 grown rack rest j bs h b f (under-way p ts es n) = let z : p .processors ≡ 0 = eqb-true (p .processors) 0 (f .placed) in absurd (omega arith)
 grown step rest j bs h b f start = never (f .placed)
 grown step rest j bs h b f (under-way p ts [] n) =
     let d : ℕ = durationIn rest in
     rw (← step-bytes rest b (f .whole), append-nil (flatMap stepBytes ts), append-assoc (rackBytes p) (flatMap stepBytes ts) (stepBytes d), ← flatMap-more stepBytes ts d)
     (rw (append-nil (flatMap stepBytes (ts ++ (d ∷ [])))) at (under-way p (ts ++ (d ∷ [])) [] n))
-grown step rest j bs h b f (under-way p ts (e ∷ es) n) = never (and-right (not (eqb (p .processors) 0)) false (f .placed))
+grown step rest j bs h b f (under-way p ts (e ∷ es) n) = never (both (not (eqb (p .processors) 0)) false (f .placed) .1)
 grown link rest j bs h b f start = never (f .placed)
 grown link rest j bs h b f (under-way p ts es n) =
     let e : Edge = edgeIn rest in
-    rw (← link-bytes rest b (f .whole), append-assoc (rackBytes p) (flatMap stepBytes ts ++ flatMap linkBytes es) (linkBytes e), append-assoc (flatMap stepBytes ts) (flatMap linkBytes es) (linkBytes e), ← flatMap-more linkBytes es e)
+    let steps : List ℕ = flatMap stepBytes ts in
+    let links : List ℕ = flatMap linkBytes es in
+    rw (← link-bytes rest b (f .whole), append-assoc (rackBytes p) (steps ++ links) (linkBytes e), append-assoc steps links (linkBytes e), ← flatMap-more linkBytes es e)
     (under-way p ts (es ++ (e ∷ [])) n)
 grown end rest j bs h b f r = absurd (omega arith)
 
@@ -102,9 +93,10 @@ unfolding stands blank fileOf
 closes j bs s start = never s
 closes j bs s (under-way p ts es n) = simp append-assoc
 
+-- the bytes read so far and those that are left are the file of the accepted job
 whole-file : {xs : List ℕ} {j : Job} {a : Answer} → Reads xs j a → (i : Job) → a ≡ accepted i → Bytes xs → (bs : List ℕ) → Reached j bs → bs ++ xs ≡ fileOf i
-whole-file no-more i e b bs r = absurd (refuse-accept 1 i e)
-whole-file (halted {n = n} c) i e b bs r = absurd (refuse-accept n i e)
+whole-file no-more i e b bs r = let z : false ≡ true = cc in never z
+whole-file (halted c) i e b bs r = let z : false ≡ true = cc in never z
 whole-file (past {b = x} {rest = rest} {j = j} k q h f t) i e (more l b) bs r =
     let n : ℕ = bodyLength k in
     let w : bs ++ (code k ∷ take n rest) ++ drop n rest ≡ fileOf i = whole-file t i e (bytes-drop n rest b) (bs ++ (code k ∷ take n rest)) (grown k rest j bs h b f r) in

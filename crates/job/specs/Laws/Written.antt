@@ -21,8 +21,10 @@ use Rattle.job.specs.Pass.{jobOf, edge}
 use Rattle.job.specs.Laws.Number.{length-bytes}
 use Rattle.job.specs.Laws.Judged.{skip}
 use Rattle.job.specs.Laws.Encoded.{number-read}
+use Rattle.job.specs.Laws.Tests.{never}
 use Rattle.job.specs.Laws.Turn.{Turn, halts, goes-on, is-end, turn}
 
+-- records of five bytes each
 length-fives : {A : Type 0} (f : A → List ℕ) → ((a : A) → length (f a) ≡ 5) → (xs : List A) → length (flatMap f xs) ≡ 5 * length xs
 unfolding flatMap
 length-fives f h [] = refl
@@ -44,27 +46,20 @@ pub record Takes (m l n : ℕ) (j : Job) (out : List ℕ) : Type 0 where
   pub job : Job
   pub read : readJob (fileOf j) ≡ accepted job
 
-refuses : (k n : ℕ) → Refused k ≡ Length n → ⊥
-refuses k n e = let z : _≡_ {A = ℕ} 0 1 = cc in omega arith
-
 pub takes : (m l n : ℕ) (j : Job) (out : List ℕ) → writeAnswer m l j out ≡ Length n → Takes m l n j out
 unfolding writeAnswer roomFor
 takes m l n j out e = go (ltb 256 m) (ltb 1024 l) (readJob (fileOf j)) (ltb (length out) (fileLength m l)) refl refl refl refl e
   where
     go : (s t : Bool) (a : Answer) (r : Bool) → ltb 256 m ≡ s → ltb 1024 l ≡ t → readJob (fileOf j) ≡ a → ltb (length out) (fileLength m l) ≡ r →
         pick (s || t) (Refused 5) (roomFor (fileLength m l) out a) ≡ Length n → Takes m l n j out
-    go true t a r hs ht ha hr h = absurd (refuses 5 n h)
-    go false true a r hs ht ha hr h = absurd (refuses 5 n h)
-    go false false (refused k) r hs ht ha hr h = absurd (refuses k n h)
-    go false false (accepted i) true hs ht ha hr h = absurd (refuses 9 n (rw hr at h))
+    go true t a r hs ht ha hr h = let z : false ≡ true = cc in never z
+    go false true a r hs ht ha hr h = let z : false ≡ true = cc in never z
+    go false false (refused k) r hs ht ha hr h = let z : false ≡ true = cc in never z
+    go false false (accepted i) true hs ht ha hr h = let q : Refused 9 ≡ Length n = rw hr at h in let z : false ≡ true = cc in never z
     go false false (accepted i) false hs ht ha hr h =
         let q : Length (fileLength m l) ≡ Length n = rw hr at h in
         let z : n ≡ fileLength m l = cc in
         record { few-tasks = ltb-false _ _ hs; few-edges = ltb-false _ _ ht; size = z; room = omega (arith, ltb-false (length out) (fileLength m l) hr); job = i; read = ha }
-
--- a refused file is not accepted
-pub refuse-accept : (n : ℕ) (i : Job) → refused n ≡ accepted i → ⊥
-refuse-accept n i e = let z : _≡_ {A = ℕ} 0 1 = cc in omega arith
 
 -- an accepted file is accepted past a record
 past-body : (k : Kind) (rest : List ℕ) (j i : Job) → 1 ≤ bodyLength k → judged (some k) rest j (records rest) ≡ accepted i →
@@ -74,11 +69,11 @@ past-body k rest j i h e = go (some k) (judged (some k) rest j (records rest)) r
   where
     go : (o : Option Kind) (a : Answer) → o ≡ some k → a ≡ accepted i → Turn rest j (records rest) o a →
         records (drop (bodyLength k) rest) 0 (added j k rest) ≡ accepted i
-    go o a q e (halts {n = n} c) = absurd (refuse-accept n i e)
+    go o a q e (halts c) = let z : false ≡ true = cc in never z
     go o a q e (goes-on k′ h′ f) = let z : k′ ≡ k = cc in rw (← z) (sym (skip rest (bodyLength k′) (added j k′ rest)) ∙ e)
     go o a q e (is-end f z) = let w : k ≡ end = cc in let b : 1 ≤ bodyLength end = rw w at h in absurd (omega arith)
 
--- .. and past a run of records, from the same for one of them
+-- .. past a run of records, from the same for one of them
 past-run : {A : Type 0} (f : A → List ℕ) (job : List A → Job) (P : A → Type 0) (d : A) (i : Job) →
     ((done : List A) (x : A) (tail : List ℕ) → P x → records (f x ++ tail) 0 (job done) ≡ accepted i → records tail 0 (job (done ++ (x ∷ []))) ≡ accepted i) →
     (done xs : List A) (tail : List ℕ) → ((n : ℕ) → P (getD xs n d)) → records (flatMap f xs ++ tail) 0 (job done) ≡ accepted i → records tail 0 (job (done ++ xs)) ≡ accepted i
@@ -88,6 +83,7 @@ past-run f job P d i one done (x ∷ xs) tail h e =
     rw (append-assoc done (x ∷ []) xs) at
     (past-run f job P d i one (done ++ (x ∷ [])) xs tail (λ n. h (suc n)) (one done x (flatMap f xs ++ tail) (h 0) (rw (append-assoc (f x) (flatMap f xs) tail) at e)))
 
+-- .. past the rack, a step, a link
 past-rack : (p : Platform) (i : Job) (tail : List ℕ) → records (rackBytes p ++ tail) 0 blank ≡ accepted i → records tail 0 (jobOf p [] []) ≡ accepted i
 unfolding records kindOf bodyLength added rackBytes platformIn blank
 past-rack p i tail e = past-body rack (p .processors ∷ p .topology ∷ p .unit ∷ tail) blank i (omega arith) e
@@ -111,7 +107,7 @@ unfolding records kindOf bodyLength
 past-end j i e = go (some end) (judged (some end) [] j (records [])) refl e (turn (some end) [] j (records []))
   where
     go : (o : Option Kind) (a : Answer) → o ≡ some end → a ≡ accepted i → Turn [] j (records []) o a → i ≡ j
-    go o a q e (halts {n = n} c) = absurd (refuse-accept n i e)
+    go o a q e (halts c) = let z : false ≡ true = cc in never z
     go o a q e (goes-on k h f) = let w : k ≡ end = cc in let b : 1 ≤ bodyLength end = rw w at h in absurd (omega arith)
     go o a q e (is-end f z) = cc
 
