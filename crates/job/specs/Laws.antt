@@ -9,3 +9,8 @@ pub mod Turn
 pub mod Lists
 pub mod Halt
 pub mod Kept
+pub mod Encoded
+pub mod Written
+pub mod Held
+pub mod Rewritten
+pub mod Prefix
