@@ -13,7 +13,7 @@ use Rattle.job.specs.Number.{pick}
 use Rattle.job.specs.Job.{Edge, Job}
 use Rattle.job.specs.Record.{platformInRange, durationInRange, countInRange, joins}
 use Rattle.job.specs.Read.{Answer, refused, records, readJob}
-use Rattle.job.specs.Write.{edgesOf}
+use Rattle.job.specs.Write.{values, edgeHeld}
 
 abbrev pub jobOf : Platform → List ℕ → List Edge → Job
 jobOf p ts es = record { platform = p; tasks = ts; edges = es }
@@ -91,6 +91,6 @@ LinksPassed file m from to counts (Count l) =
     × (length from ≡ 1024) × (length to ≡ 1024) × (length counts ≡ 1024)
     × (drop l from ≡ replicate (1024 - l) 0) × (drop l to ≡ replicate (1024 - l) 0) × (drop l counts ≡ replicate (1024 - l) 0)
     × ((p : Platform) (ts : List ℕ) → length ts ≡ m →
-      records (drop (4 + 5 * m) file) 0 (jobOf p ts []) ≡ records (drop (4 + 5 * m + 5 * l) file) 0 (jobOf p ts (take l (edgesOf from to counts))))
+      records (drop (4 + 5 * m) file) 0 (jobOf p ts []) ≡ records (drop (4 + 5 * m + 5 * l) file) 0 (jobOf p ts (values (edgeHeld from to counts) 0 l)))
 LinksPassed file m from to counts (Trouble k) =
     (p : Platform) (ts : List ℕ) → length ts ≡ m → records (drop (4 + 5 * m) file) 0 (jobOf p ts []) ≡ refused k
