@@ -4,6 +4,7 @@ pub mod Judged
 pub mod Kinds
 pub mod Spare
 pub mod Values
+pub mod Stored
 pub mod Tests
 pub mod Turn
 pub mod Lists
