@@ -8,12 +8,12 @@ ghost use mathlib.Core.List.{flatMap};
 ghost use lib.ListN.{length, getD};
 ghost use lib.Seq.{sets};
 ghost use Rattle.job.specs.Write.{values, edgeHeld, rackBytes, stepBytes, linkBytes};
-ghost use Rattle.job.specs.Pass.{edge, stepsTrouble, linksTrouble};
+ghost use Rattle.job.specs.Pass.{edge, StepsJudged, LinksJudged};
 
 // The first trouble among the first `tasks` durations, or 0 for none.
-pub fn steps_trouble(durations: &[u32; 256], tasks: usize) -> u8
-    requires { ⌜ tasks ≤ 256 ⌝ }
-    ensures { λ r. ⌜ r ≡ stepsTrouble (values (λ t. getD (now (durations .entry)) t 0) 0 tasks) ⌝ }
+pub fn steps_trouble(durations: &[u32], tasks: usize) -> u8
+    requires { ⌜ tasks ≤ length (now durations) ⌝ }
+    ensures { λ r. ⌜ StepsJudged (now (durations .entry)) tasks r ⌝ }
 {
     let mut i: usize = 0;
     while i < tasks {
@@ -27,9 +27,9 @@ pub fn steps_trouble(durations: &[u32; 256], tasks: usize) -> u8
 }
 
 // The first trouble among the first `edges` edges, or 0 for none.
-pub fn links_trouble(tasks: usize, edges: usize, from: &[u8; 1024], to: &[u8; 1024], counts: &[u16; 1024]) -> u8
-    requires { ⌜ edges ≤ 1024 ⌝ }
-    ensures { λ r. ⌜ r ≡ linksTrouble tasks 0 (values (edgeHeld (now (from .entry)) (now (to .entry)) (now (counts .entry))) 0 edges) ⌝ }
+pub fn links_trouble(tasks: usize, edges: usize, from: &[u8], to: &[u8], counts: &[u16]) -> u8
+    requires { ⌜ (edges ≤ length (now from)) × (edges ≤ length (now to)) × (edges ≤ length (now counts)) ⌝ }
+    ensures { λ r. ⌜ LinksJudged (now (from .entry)) (now (to .entry)) (now (counts .entry)) tasks edges r ⌝ }
 {
     let mut i: usize = 0;
     let mut least: u32 = 0;

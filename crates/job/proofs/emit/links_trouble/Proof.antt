@@ -6,7 +6,7 @@ use native.Mathlib.Numerals.{add-one}
 use native.Mathlib.Omega.{arith}
 use borrow.Author.Needs.{needs}
 use borrow.Author.Tests.{eq-eqb, ne-eqb}
-use lib.ListN.{getD}
+use lib.ListN.{length, getD}
 use Rattle.job.specs.Job.{Edge}
 use Rattle.job.specs.Write.{values, edgeHeld}
 use Rattle.job.specs.Pass.{edge, key, linkTrouble, linksTrouble}
@@ -36,32 +36,33 @@ module _ (from to counts : List ℕ) (m l i least : ℕ) where
 
 abbrev Inv-loop : tie.InvT-loop
 Inv-loop tasks edges from to counts i₀ least₀ i least =
-    (i ≤ edges) × (edges ≤ 1024) × (linksTrouble tasks least (left from to counts tasks edges i least) ≡ linksTrouble tasks 0 (values (edgeHeld from to counts) 0 edges))
+    (i ≤ edges) × (edges ≤ length from) × (edges ≤ length to) × (edges ≤ length counts)
+    × (linksTrouble tasks least (left from to counts tasks edges i least) ≡ linksTrouble tasks 0 (values (edgeHeld from to counts) 0 edges))
 
 abbrev μ-loop : tie.MeasureT-loop
 μ-loop tasks edges from to counts i₀ least₀ i least = edges - i
 
 loop-holds : tie.Need-loop-holds Inv-loop μ-loop
 unfolding left
-loop-holds c = (search needs, search needs, let e : c .args .edges - 0 ≡ c .args .edges = omega arith in rw e)
+loop-holds c = (search needs, search needs, search needs, search needs, let e : c .before .before .before .args .edges - 0 ≡ c .before .before .before .args .edges = omega arith in rw e)
 
-element-copy-out-f : tie.Need-element-copy-out-f Inv-loop μ-loop
-element-copy-out-f c = search needs
+shared-slice-read-f : tie.Need-shared-slice-read-f Inv-loop μ-loop
+shared-slice-read-f c = search needs
 
-element-copy-out-t : tie.Need-element-copy-out-t Inv-loop μ-loop
-element-copy-out-t c = search needs
+shared-slice-read-t : tie.Need-shared-slice-read-t Inv-loop μ-loop
+shared-slice-read-t c = search needs
 
 mul-link-trouble : tie.Need-mul-link-trouble Inv-loop μ-loop
 mul-link-trouble c = search needs
 
-element-copy-out-link-trouble : tie.Need-element-copy-out-link-trouble Inv-loop μ-loop
-element-copy-out-link-trouble c = search needs
+shared-slice-read-link-trouble : tie.Need-shared-slice-read-link-trouble Inv-loop μ-loop
+shared-slice-read-link-trouble c = search needs
 
 link-trouble-requires : tie.Need-link-trouble-requires Inv-loop μ-loop
 link-trouble-requires c κs = search needs
 
 returns : tie.Need-returns Inv-loop μ-loop
-returns c = sym (met _ _ _ _ _ _ _ (search needs) _ (c .before .link-trouble .ensures) (c .if1 .taken)) ∙ c .before .before .before .before .before .before .loop .inv .2
+returns c = record { first = sym (met _ _ _ _ _ _ _ (search needs) _ (c .before .link-trouble .ensures) (c .if1 .taken)) ∙ c .before .before .before .before .before .before .loop .inv .4; to-fits = c .before .before .before .before .before .before .before .before .shared-slice-known2 .given; count-fits = c .before .before .before .before .before .before .before .shared-slice-known3 .given }
 
 key-requires : tie.Need-key-requires Inv-loop μ-loop
 key-requires c κs = search needs
@@ -77,10 +78,10 @@ loop-less c = search needs
 
 loop-again : tie.Need-loop-again Inv-loop μ-loop
 unfolding left
-loop-again c = (search needs, search needs, sym (on _ _ _ _ _ _ _ (search needs) _ (c .before .before .link-trouble .ensures) _ (c .key .ensures .0) (c .before .if1 .left)) ∙ c .before .before .before .before .before .before .before .loop .inv .2)
+loop-again c = (search needs, search needs, search needs, search needs, sym (on _ _ _ _ _ _ _ (search needs) _ (c .before .before .link-trouble .ensures) _ (c .key .ensures .0) (c .before .if1 .left)) ∙ c .before .before .before .before .before .before .before .loop .inv .4)
 
 returns-2 : tie.Need-returns-2 Inv-loop μ-loop
-returns-2 c = sym (none-left _ _ _ _ _ _ _ (c .loop-test .left)) ∙ c .before .loop .inv .2
+returns-2 c = record { first = sym (none-left _ _ _ _ _ _ _ (c .loop-test .left)) ∙ c .before .loop .inv .4; to-fits = c .before .before .before .shared-slice-known2 .given; count-fits = c .before .before .shared-slice-known3 .given }
 
 pub links-trouble-spec : {M : Type 1} → statement M
 links-trouble-spec =
@@ -89,10 +90,10 @@ links-trouble-spec =
     Inv-loop
     μ-loop
     loop-holds
-    element-copy-out-f
-    element-copy-out-t
+    shared-slice-read-f
+    shared-slice-read-t
     mul-link-trouble
-    element-copy-out-link-trouble
+    shared-slice-read-link-trouble
     link-trouble-requires
     returns
     key-requires

@@ -5,7 +5,7 @@ use native.Mathlib.Numerals.{add-one}
 use native.Mathlib.Omega.{arith}
 use borrow.Author.Needs.{needs}
 use borrow.Author.Tests.{eq-eqb, ne-eqb}
-use lib.ListN.{getD}
+use lib.ListN.{length, getD}
 use Rattle.job.specs.Write.{values}
 use Rattle.job.specs.Pass.{stepTrouble, stepsTrouble}
 use Rattle.job.proofs.emit.steps_trouble.Statement.{statement}
@@ -29,25 +29,26 @@ module _ (f : ℕ → ℕ) (m i : ℕ) where
     on z = let e : m - i ≡ suc (m - (i + 1)) = omega arith in rw (e, ← is, ← add-one i) (simp (eq-eqb _ _ z))
 
 abbrev Inv-loop : tie.InvT-loop
-Inv-loop durations tasks i₀ i = (i ≤ tasks) × (tasks ≤ 256) × (stepsTrouble (values (λ t. getD durations t 0) i (tasks - i)) ≡ stepsTrouble (values (λ t. getD durations t 0) 0 tasks))
+Inv-loop durations tasks i₀ i =
+    (i ≤ tasks) × (tasks ≤ length durations) × (stepsTrouble (values (λ t. getD durations t 0) i (tasks - i)) ≡ stepsTrouble (values (λ t. getD durations t 0) 0 tasks))
 
 abbrev μ-loop : tie.MeasureT-loop
 μ-loop durations tasks i₀ i = tasks - i
 
 loop-holds : tie.Need-loop-holds Inv-loop μ-loop
-loop-holds c = (search needs, search needs, let e : c .args .tasks - 0 ≡ c .args .tasks = omega arith in rw e)
+loop-holds c = (search needs, search needs, let e : c .before .args .tasks - 0 ≡ c .before .args .tasks = omega arith in rw e)
 
 mul-step-trouble : tie.Need-mul-step-trouble Inv-loop μ-loop
 mul-step-trouble c = search needs
 
-element-copy-out-step-trouble : tie.Need-element-copy-out-step-trouble Inv-loop μ-loop
-element-copy-out-step-trouble c = search needs
+shared-slice-read-step-trouble : tie.Need-shared-slice-read-step-trouble Inv-loop μ-loop
+shared-slice-read-step-trouble c = search needs
 
 step-trouble-requires : tie.Need-step-trouble-requires Inv-loop μ-loop
 step-trouble-requires c κs = search needs
 
 returns : tie.Need-returns Inv-loop μ-loop
-returns c = sym (met _ _ _ (search needs) _ (c .before .step-trouble .ensures) (c .if1 .taken)) ∙ c .before .before .before .before .loop .inv .2
+returns c = record { first = sym (met _ _ _ (search needs) _ (c .before .step-trouble .ensures) (c .if1 .taken)) ∙ c .before .before .before .before .loop .inv .2; fits = c .before .before .before .before .before .shared-slice-known .given }
 
 add-i : tie.Need-add-i Inv-loop μ-loop
 add-i c = search needs
@@ -59,7 +60,7 @@ loop-again : tie.Need-loop-again Inv-loop μ-loop
 loop-again c = (search needs, search needs, sym (on _ _ _ (search needs) _ (c .before .step-trouble .ensures) (c .if1 .left)) ∙ c .before .before .before .before .loop .inv .2)
 
 returns-2 : tie.Need-returns-2 Inv-loop μ-loop
-returns-2 c = sym (none-left _ _ _ (c .loop-test .left)) ∙ c .before .loop .inv .2
+returns-2 c = record { first = sym (none-left _ _ _ (c .loop-test .left)) ∙ c .before .loop .inv .2; fits = c .before .before .shared-slice-known .given }
 
 pub steps-trouble-spec : {M : Type 1} → statement M
 steps-trouble-spec =
@@ -69,7 +70,7 @@ steps-trouble-spec =
     μ-loop
     loop-holds
     mul-step-trouble
-    element-copy-out-step-trouble
+    shared-slice-read-step-trouble
     step-trouble-requires
     returns
     add-i
