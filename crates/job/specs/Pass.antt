@@ -14,8 +14,8 @@ use Rattle.job.specs.declared.parse.Pass.the-variants.{Count, Trouble}
 use Rattle.job.specs.Number.{pick}
 use Rattle.job.specs.Job.{Edge, Job}
 use Rattle.job.specs.Record.{platformInRange, durationInRange, countInRange, joins}
-use Rattle.job.specs.Read.{Answer, refused, records, readJob}
-use Rattle.job.specs.Write.{values, edgeHeld}
+use Rattle.job.specs.Read.{accepted, refused, records, readJob}
+use Rattle.job.specs.Write.{values, edgeHeld, fileOf}
 
 abbrev pub jobOf : Platform → List ℕ → List Edge → Job
 jobOf p ts es = record { platform = p; tasks = ts; edges = es }
@@ -67,6 +67,11 @@ pub record LinksJudged (from to counts : List ℕ) (m l trouble : ℕ) : Type 0 
   pub first : trouble ≡ linksTrouble m 0 (values (edgeHeld from to counts) 0 l)
   pub to-fits : (i : ℕ) → Fits w8 (getD to i 0)
   pub count-fits : (i : ℕ) → Fits w16 (getD counts i 0)
+
+-- a job as the reader would meet its records: its trouble, or 0 and it is accepted as it is
+pub record JobJudged (j : Job) (trouble : ℕ) : Type 0 where
+  pub refuses : (trouble ≡ 0 → ⊥) → readJob (fileOf j) ≡ refused trouble
+  pub accepts : trouble ≡ 0 → readJob (fileOf j) ≡ accepted j
 
 -- the rack's values at their places in a file
 abbrev pub platformAt : List ℕ → Platform

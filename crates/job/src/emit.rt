@@ -7,11 +7,11 @@ ghost use Prim.Native.Nat.{_+_, _*_, _≤_, _<_};
 ghost use mathlib.Core.List.{flatMap};
 ghost use lib.ListN.{length, getD};
 ghost use lib.Seq.{sets};
-ghost use Rattle.job.specs.Write.{values, edgeHeld, rackBytes, stepBytes, linkBytes};
-ghost use Rattle.job.specs.Pass.{edge, StepsJudged, LinksJudged};
+ghost use Rattle.job.specs.Write.{values, edgeHeld, heldJob, rackBytes, stepBytes, linkBytes, fileOf};
+ghost use Rattle.job.specs.Pass.{edge, StepsJudged, LinksJudged, JobJudged};
 
 // The first trouble among the first `tasks` durations, or 0 for none.
-pub fn steps_trouble(durations: &[u32], tasks: usize) -> u8
+fn steps_trouble(durations: &[u32], tasks: usize) -> u8
     requires { ⌜ tasks ≤ length (now durations) ⌝ }
     ensures { λ r. ⌜ StepsJudged (now (durations .entry)) tasks r ⌝ }
 {
@@ -27,7 +27,7 @@ pub fn steps_trouble(durations: &[u32], tasks: usize) -> u8
 }
 
 // The first trouble among the first `edges` edges, or 0 for none.
-pub fn links_trouble(tasks: usize, edges: usize, from: &[u8], to: &[u8], counts: &[u16]) -> u8
+fn links_trouble(tasks: usize, edges: usize, from: &[u8], to: &[u8], counts: &[u16]) -> u8
     requires { ⌜ (edges ≤ length (now from)) × (edges ≤ length (now to)) × (edges ≤ length (now counts)) ⌝ }
     ensures { λ r. ⌜ LinksJudged (now (from .entry)) (now (to .entry)) (now (counts .entry)) tasks edges r ⌝ }
 {
@@ -47,7 +47,7 @@ pub fn links_trouble(tasks: usize, edges: usize, from: &[u8], to: &[u8], counts:
 }
 
 // Writes the rack to the first 4 bytes.
-pub fn put_rack(p: Platform, out: &mut [u8])
+fn put_rack(p: Platform, out: &mut [u8])
     requires { ⌜ 4 ≤ length (now out) ⌝ }
     ensures { λ _. ⌜ now (out .exit) ≡ sets (now (out .entry)) 0 (rackBytes p) ⌝ }
 {
@@ -86,7 +86,7 @@ fn put_link(from: u8, to: u8, count: u16, out: &mut [u8], at: usize)
 }
 
 // Writes the first `tasks` steps from byte 4 on.
-pub fn put_steps(durations: &[u32; 256], tasks: usize, out: &mut [u8])
+fn put_steps(durations: &[u32; 256], tasks: usize, out: &mut [u8])
     requires { ⌜ (tasks ≤ 256) × (4 + 5 * tasks ≤ length (now out)) ⌝ }
     ensures { λ _. ⌜ now (out .exit) ≡ sets (now (out .entry)) 4 (flatMap stepBytes (values (λ t. getD (now (durations .entry)) t 0) 0 tasks)) ⌝ }
 {
@@ -98,7 +98,7 @@ pub fn put_steps(durations: &[u32; 256], tasks: usize, out: &mut [u8])
 }
 
 // Writes the first `edges` links from byte `at` on.
-pub fn put_links(edges: usize, from: &[u8; 1024], to: &[u8; 1024], counts: &[u16; 1024], out: &mut [u8], at: usize)
+fn put_links(edges: usize, from: &[u8; 1024], to: &[u8; 1024], counts: &[u16; 1024], out: &mut [u8], at: usize)
     requires { ⌜ (edges ≤ 1024) × (at + 5 * edges ≤ length (now out)) ⌝ }
     ensures { λ _. ⌜ now (out .exit) ≡ sets (now (out .entry)) at (flatMap linkBytes (values (edgeHeld (now (from .entry)) (now (to .entry)) (now (counts .entry))) 0 edges)) ⌝ }
 {
@@ -107,4 +107,53 @@ pub fn put_links(edges: usize, from: &[u8; 1024], to: &[u8; 1024], counts: &[u16
         put_link(from[i], to[i], counts[i], out, at + 5 * i);
         i += 1;
     }
+}
+
+// The trouble of a job held as numbers, as the reader would meet its records, or 0 for none.
+pub fn job_trouble<'a>(
+    platform: Platform,
+    tasks: usize,
+    edges: usize,
+    durations: &'a [u32; 256],
+    from: &'a [u8; 1024],
+    to: &'a [u8; 1024],
+    counts: &'a [u16; 1024],
+) -> u8
+    requires { ⌜ (tasks ≤ 256) × (edges ≤ 1024) ⌝ }
+    ensures { λ r. ⌜ JobJudged (heldJob platform tasks edges (now (durations .entry)) (now (from .entry)) (now (to .entry)) (now (counts .entry))) r ⌝ }
+{
+    let trouble = record::platform_trouble(platform.processors, platform.topology, platform.unit);
+    if trouble != 0 {
+        return trouble;
+    }
+    if tasks == 0 {
+        return 3;
+    }
+    let trouble = steps_trouble(durations, tasks);
+    if trouble != 0 {
+        return trouble;
+    }
+    links_trouble(tasks, edges, from, to, counts)
+}
+
+// Writes the file of a job held as numbers.
+pub fn put_job<'a>(
+    platform: Platform,
+    tasks: usize,
+    edges: usize,
+    durations: &'a [u32; 256],
+    from: &'a [u8; 1024],
+    to: &'a [u8; 1024],
+    counts: &'a [u16; 1024],
+    out: &mut [u8],
+)
+    requires { ⌜ (tasks ≤ 256) × (edges ≤ 1024) × (5 + 5 * (tasks + edges) ≤ length (now out)) ⌝ }
+    ensures { λ _. ⌜ now (out .exit) ≡ sets (now (out .entry)) 0 (fileOf (heldJob platform tasks edges (now (durations .entry)) (now (from .entry)) (now (to .entry)) (now (counts .entry)))) ⌝ }
+{
+    let links = 4 + 5 * tasks;
+    let end = links + 5 * edges;
+    put_rack(platform, out);
+    put_steps(durations, tasks, out);
+    put_links(edges, from, to, counts, out, links);
+    out[end] = 4;
 }

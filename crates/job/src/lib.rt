@@ -121,28 +121,14 @@ pub fn write<'a>(
     if 1024 < edges {
         return Written::Refused(5);
     }
-    let trouble = record::platform_trouble(platform.processors, platform.topology, platform.unit);
+    let trouble = emit::job_trouble(platform, tasks, edges, durations, from, to, counts);
     if trouble != 0 {
         return Written::Refused(trouble);
     }
-    if tasks == 0 {
-        return Written::Refused(3);
-    }
-    let trouble = emit::steps_trouble(durations, tasks);
-    if trouble != 0 {
-        return Written::Refused(trouble);
-    }
-    let trouble = emit::links_trouble(tasks, edges, from, to, counts);
-    if trouble != 0 {
-        return Written::Refused(trouble);
-    }
-    let end = 4 + 5 * tasks + 5 * edges;
-    if out.len() < end + 1 {
+    let length = 5 + 5 * (tasks + edges);
+    if out.len() < length {
         return Written::Refused(9);
     }
-    emit::put_rack(platform, out);
-    emit::put_steps(durations, tasks, out);
-    emit::put_links(edges, from, to, counts, out, 4 + 5 * tasks);
-    out[end] = 4;
-    Written::Length(end + 1)
+    emit::put_job(platform, tasks, edges, durations, from, to, counts, out);
+    Written::Length(length)
 }
