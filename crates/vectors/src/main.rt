@@ -19,17 +19,11 @@ fn run(what: u8, body: &[u8]) {
 }
 
 // Fills the first `length` places of the buffer, and answers whether the input had as many bytes.
-fn fill(buffer: &mut [u8; 8192], length: usize) -> bool {
-    if 8192 < length {
-        return false;
-    }
-    let got = io::read_full(STDIN_FILENO, &mut buffer[..length]);
-    got == length
-}
-
-fn run_first(what: u8, buffer: &[u8; 8192], length: usize) {
-    if length <= 8192 {
-        run(what, &buffer[..length]);
+fn fill(buffer: &mut [u8], length: usize) -> bool {
+    if length <= buffer.len() {
+        io::read_full(STDIN_FILENO, &mut buffer[0..length]) == length
+    } else {
+        false
     }
 }
 
@@ -44,7 +38,7 @@ fn next() -> bool {
     let mut buffer = [0u8; 8192];
     let is_whole = fill(&mut buffer, length);
     if is_whole {
-        run_first(head[0], &buffer, length);
+        run(head[0], show::first(&buffer, length));
     }
     is_whole
 }

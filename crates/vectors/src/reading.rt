@@ -12,8 +12,8 @@ fn show_platform(p: Platform) {
     show::word(number::wide8(p.unit));
 }
 
+// The first `tasks` durations.
 fn show_tasks(durations: &[u32; 256], tasks: usize) {
-    show::text(b" tasks");
     let mut i: usize = 0;
     while i < 256 {
         if tasks <= i {
@@ -24,73 +24,73 @@ fn show_tasks(durations: &[u32; 256], tasks: usize) {
     }
 }
 
+fn show_edge(from: u8, to: u8, count: u16) {
+    show::word(number::wide8(from));
+    show::word(number::wide8(to));
+    show::word(number::wide16(count));
+}
+
+// The first `edges` edges.
 fn show_edges(from: &[u8; 1024], to: &[u8; 1024], counts: &[u16; 1024], edges: usize) {
-    show::text(b" edges");
     let mut i: usize = 0;
     while i < 1024 {
         if edges <= i {
             return;
         }
-        show::word(number::wide8(from[i]));
-        show::word(number::wide8(to[i]));
-        show::word(number::wide16(counts[i]));
+        show_edge(from[i], to[i], counts[i]);
         i += 1;
     }
 }
 
-// How many durations from place `tasks` on are not 0.
-fn spare_tasks(durations: &[u32; 256], tasks: usize) -> u64 {
-    let mut set: u64 = 0;
+// Whether the durations from place `tasks` on are 0.
+fn are_tasks_clear(durations: &[u32; 256], tasks: usize) -> bool {
     let mut i = tasks;
     while i < 256 {
         if durations[i] != 0 {
-            set += 1;
+            return false;
         }
         i += 1;
     }
-    set
+    true
 }
 
-fn is_set(from: u8, to: u8, count: u16) -> bool {
-    if from != 0 {
-        return true;
-    }
-    if to != 0 {
-        return true;
-    }
-    count != 0
-}
-
-// How many places from `edges` on are not 0 in each of the three arrays.
-fn spare_edges(from: &[u8; 1024], to: &[u8; 1024], counts: &[u16; 1024], edges: usize) -> u64 {
-    let mut set: u64 = 0;
+// Whether all three arrays are 0 from place `edges` on.
+fn are_edges_clear(from: &[u8; 1024], to: &[u8; 1024], counts: &[u16; 1024], edges: usize) -> bool {
     let mut i = edges;
     while i < 1024 {
-        if is_set(from[i], to[i], counts[i]) {
-            set += 1;
+        if from[i] != 0 {
+            return false;
+        }
+        if to[i] != 0 {
+            return false;
+        }
+        if counts[i] != 0 {
+            return false;
         }
         i += 1;
     }
-    set
+    true
 }
 
-// How many spare places are not 0.
-fn show_spare(tasks: u64, edges: u64) {
-    show::text(b" spare");
-    show::word(tasks);
-    show::word(edges);
+fn show_spare(are_tasks_clear: bool, are_edges_clear: bool) {
+    if are_tasks_clear {
+        show::text(b" spare 0");
+    } else {
+        show::text(b" spare set");
+    }
+    if are_edges_clear {
+        show::text(b" 0");
+    } else {
+        show::text(b" set");
+    }
 }
 
-fn show_same(file: &[u8], out: &[u8; 8192], written: Written) {
+fn show_same(file: &[u8], out: &[u8], written: Written) {
     let Written::Length(n) = written else {
         show::text(b" unwritten");
         return;
     };
-    if 8192 < n {
-        show::text(b" unwritten");
-        return;
-    }
-    if check::same(file, &out[..n]) {
+    if check::same(file, show::first(out, n)) {
         show::text(b" same");
     } else {
         show::text(b" differs");
@@ -112,11 +112,13 @@ pub fn case(file: &[u8]) {
             show::word(number::wide(tasks));
             show::word(number::wide(edges));
             show_platform(platform);
+            show::text(b" tasks");
             show_tasks(&durations, tasks);
+            show::text(b" edges");
             show_edges(&from, &to, &counts, edges);
             show_spare(
-                spare_tasks(&durations, tasks),
-                spare_edges(&from, &to, &counts, edges),
+                are_tasks_clear(&durations, tasks),
+                are_edges_clear(&from, &to, &counts, edges),
             );
             let mut out = [238u8; 8192];
             let written = job::write(
@@ -136,8 +138,8 @@ pub fn case(file: &[u8]) {
             show::word(number::wide8(number));
             show_platform(platform);
             show_spare(
-                spare_tasks(&durations, 0),
-                spare_edges(&from, &to, &counts, 0),
+                are_tasks_clear(&durations, 0),
+                are_edges_clear(&from, &to, &counts, 0),
             );
         }
     }

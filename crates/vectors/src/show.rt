@@ -2,6 +2,15 @@
 use crate::number;
 use libc::STDOUT_FILENO;
 
+// The first `n` bytes, or all where there are fewer.
+pub fn first(bytes: &[u8], n: usize) -> &[u8] {
+    if n <= bytes.len() {
+        &bytes[0..n]
+    } else {
+        bytes
+    }
+}
+
 pub fn text(bytes: &[u8]) {
     io::write_all(STDOUT_FILENO, bytes);
 }

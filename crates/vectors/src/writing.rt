@@ -49,14 +49,6 @@ fn put_edges(
     }
 }
 
-fn show_output(out: &[u8; 8192], room: usize) {
-    show::text(b" [");
-    if room <= 8192 {
-        show::hex(&out[..room]);
-    }
-    show::text(b"]\n");
-}
-
 fn show_written(written: Written) {
     match written {
         Written::Length(n) => {
@@ -70,16 +62,17 @@ fn show_written(written: Written) {
     }
 }
 
-// Writes the job to an output of `room` bytes.
-fn write(
+// Writes the job to the first `room` bytes of the output.
+fn write<'a>(
     body: &[u8],
     room: usize,
-    durations: &[u32; 256],
-    from: &[u8; 1024],
-    to: &[u8; 1024],
-    counts: &[u16; 1024],
+    durations: &'a [u32; 256],
+    from: &'a [u8; 1024],
+    to: &'a [u8; 1024],
+    counts: &'a [u16; 1024],
+    out: &mut [u8],
 )
-    requires { ⌜ (32 ≤ length (now body)) × (room ≤ 8192) ⌝ }
+    requires { ⌜ (32 ≤ length (now body)) × (room ≤ length (now out)) ⌝ }
 {
     let platform = Platform {
         processors: body[16],
@@ -88,7 +81,6 @@ fn write(
     };
     let tasks = number::eight(body, 0) as usize;
     let edges = number::eight(body, 8) as usize;
-    let mut out = [body[19]; 8192];
     let written = job::write(
         platform,
         tasks,
@@ -97,10 +89,12 @@ fn write(
         from,
         to,
         counts,
-        &mut out[..room],
+        &mut out[0..room],
     );
     show_written(written);
-    show_output(&out, room);
+    show::text(b" [");
+    show::hex(show::first(out, room));
+    show::text(b"]\n");
 }
 
 // Runs the case of a job held as numbers.
@@ -125,5 +119,6 @@ pub fn case(body: &[u8]) {
     let mut counts = [number::two(body, 30) as u16; 1024];
     put_durations(body, given, &mut durations);
     put_edges(body, 32 + 4 * given, &mut from, &mut to, &mut counts);
-    write(body, room, &durations, &from, &to, &counts);
+    let mut out = [body[19]; 8192];
+    write(body, room, &durations, &from, &to, &counts, &mut out);
 }
