@@ -70,12 +70,12 @@ def read_line(data):
     try:
         job = etf.read(data)
     except etf.Refused as refusal:
-        return f"refused {refusal.number} platform 0 0 0 spare 0 0"
+        return f"refused {refusal.number} platform 0 0 0 tasks edges spare 0"
     words = ["job", len(job.steps), len(job.links), "platform", job.boards, job.wiring, job.unit]
     words += ["tasks", *job.steps, "edges"]
     for link in job.links:
         words += link
-    words += ["spare", 0, 0, "same" if etf.write(job) == data else "differs"]
+    words += ["spare", 0, "same" if etf.write(job) == data else "differs"]
     return " ".join(map(str, words))
 
 

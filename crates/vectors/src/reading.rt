@@ -12,6 +12,19 @@ fn show_platform(p: Platform) {
     show::word(number::wide8(p.unit));
 }
 
+fn show_counts(tasks: usize, edges: usize, p: Platform) {
+    show::text(b"job");
+    show::word(number::wide(tasks));
+    show::word(number::wide(edges));
+    show_platform(p);
+}
+
+fn show_refusal(number: u8, p: Platform) {
+    show::text(b"refused");
+    show::word(number::wide8(number));
+    show_platform(p);
+}
+
 // The first `tasks` durations.
 fn show_tasks(durations: &[u32; 256], tasks: usize) {
     let mut i: usize = 0;
@@ -74,26 +87,65 @@ fn are_edges_clear(from: &[u8; 1024], to: &[u8; 1024], counts: &[u16; 1024], edg
 
 fn show_spare(are_tasks_clear: bool, are_edges_clear: bool) {
     if are_tasks_clear {
-        show::text(b" spare 0");
-    } else {
-        show::text(b" spare set");
+        if are_edges_clear {
+            show::text(b" spare 0");
+            return;
+        }
     }
-    if are_edges_clear {
-        show::text(b" 0");
-    } else {
-        show::text(b" set");
-    }
+    show::text(b" spare set");
 }
 
-fn show_same(file: &[u8], out: &[u8], written: Written) {
+fn show_job(
+    tasks: usize,
+    edges: usize,
+    durations: &[u32; 256],
+    from: &[u8; 1024],
+    to: &[u8; 1024],
+    counts: &[u16; 1024],
+) {
+    show::text(b" tasks");
+    show_tasks(durations, tasks);
+    show::text(b" edges");
+    show_edges(from, to, counts, edges);
+    show_spare(
+        are_tasks_clear(durations, tasks),
+        are_edges_clear(from, to, counts, edges),
+    );
+}
+
+fn is_same(file: &[u8], out: &[u8], written: Written) -> bool {
     let Written::Length(n) = written else {
-        show::text(b" unwritten");
-        return;
+        return false;
     };
-    if check::same(file, show::first(out, n)) {
-        show::text(b" same");
+    check::same(file, show::first(out, n))
+}
+
+// Writes the job again, and says whether that gives the same bytes.
+fn show_again<'a>(
+    file: &[u8],
+    platform: Platform,
+    tasks: usize,
+    edges: usize,
+    durations: &'a [u32; 256],
+    from: &'a [u8; 1024],
+    to: &'a [u8; 1024],
+    counts: &'a [u16; 1024],
+) {
+    let mut out = [238u8; 8192];
+    let written = job::write(
+        platform,
+        tasks,
+        edges,
+        durations,
+        from,
+        to,
+        counts,
+        &mut out,
+    );
+    if is_same(file, &out, written) {
+        show::text(b" same\n");
     } else {
-        show::text(b" differs");
+        show::text(b" differs\n");
     }
 }
 
@@ -101,47 +153,29 @@ fn show_same(file: &[u8], out: &[u8], written: Written) {
 pub fn case(file: &[u8]) {
     let r = job::read(file);
     let verdict = r.verdict;
-    let platform = r.platform;
     let durations = r.durations;
     let from = r.from;
     let to = r.to;
     let counts = r.counts;
     match verdict {
         Verdict::Counts { tasks, edges } => {
-            show::text(b"job");
-            show::word(number::wide(tasks));
-            show::word(number::wide(edges));
-            show_platform(platform);
-            show::text(b" tasks");
-            show_tasks(&durations, tasks);
-            show::text(b" edges");
-            show_edges(&from, &to, &counts, edges);
-            show_spare(
-                are_tasks_clear(&durations, tasks),
-                are_edges_clear(&from, &to, &counts, edges),
-            );
-            let mut out = [238u8; 8192];
-            let written = job::write(
-                platform,
+            show_counts(tasks, edges, r.platform);
+            show_job(tasks, edges, &durations, &from, &to, &counts);
+            show_again(
+                file,
+                r.platform,
                 tasks,
                 edges,
                 &durations,
                 &from,
                 &to,
                 &counts,
-                &mut out,
             );
-            show_same(file, &out, written);
         }
         Verdict::Refused(number) => {
-            show::text(b"refused");
-            show::word(number::wide8(number));
-            show_platform(platform);
-            show_spare(
-                are_tasks_clear(&durations, 0),
-                are_edges_clear(&from, &to, &counts, 0),
-            );
+            show_refusal(number, r.platform);
+            show_job(0, 0, &durations, &from, &to, &counts);
+            show::text(b"\n");
         }
     }
-    show::text(b"\n");
 }
