@@ -3,4 +3,9 @@ pub mod Job
 pub mod Record
 pub mod Read
 pub mod Write
+pub mod Accepted
+pub mod Cause
+pub mod Refusal
+pub mod RoundTrip
 pub mod Pass
+pub mod Laws

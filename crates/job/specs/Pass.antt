@@ -11,7 +11,7 @@ use Rattle.job.specs.declared.parse.Pass.{Pass}
 use Rattle.job.specs.declared.parse.Pass.the-variants.{Count, Trouble}
 use Rattle.job.specs.Number.{pick}
 use Rattle.job.specs.Job.{Edge, Job}
-use Rattle.job.specs.Record.{platformInRange, durationInRange, countInRange, joins, platformIn}
+use Rattle.job.specs.Record.{platformInRange, durationInRange, countInRange, joins}
 use Rattle.job.specs.Read.{Answer, refused, records, readJob}
 use Rattle.job.specs.Write.{edgesOf}
 
@@ -55,12 +55,16 @@ unfoldable pub linksTrouble : ℕ → ℕ → List Edge → ℕ
 linksTrouble m least [] = 0
 linksTrouble m least (e ∷ es) = firstOf (linkTrouble m least e) (linksTrouble m (key e + 1) es)
 
+-- the rack's values at their places in a file
+abbrev pub platformAt : List ℕ → Platform
+platformAt file = record { processors = getD file 1 0; topology = getD file 2 0; unit = getD file 3 0 }
+
 -- the rack: its trouble, or 0 and what is left to judge is the rest of the file
 pub record RackPassed (file : List ℕ) (trouble : ℕ) : Type 0 where
   pub refuses : (trouble ≡ 0 → ⊥) → readJob file ≡ refused trouble
   pub whole : trouble ≡ 0 → 4 ≤ length file
   pub some-processor : trouble ≡ 0 → 1 ≤ getD file 1 0
-  pub goes-on : trouble ≡ 0 → readJob file ≡ records (drop 4 file) 0 (jobOf (platformIn (drop 1 file)) [] [])
+  pub goes-on : trouble ≡ 0 → readJob file ≡ records (drop 4 file) 0 (jobOf (platformAt file) [] [])
 
 -- the number of a pass that met trouble
 abbrev pub troubleOf : Pass → ℕ
@@ -75,7 +79,7 @@ misplacedNumber b = pick (leb 1 b && leb b 4) 3 2
 abbrev pub StepsPassed : List ℕ → List ℕ → Pass → Type 0
 StepsPassed file durations (Count m) =
     (m ≤ 256) × (4 + 5 * m < length file) × (getD file (4 + 5 * m) 0 ≡ 2 → ⊥)
-    × (drop m durations ≡ replicate (256 - m) 0)
+    × (length durations ≡ 256) × (drop m durations ≡ replicate (256 - m) 0)
     × ((p : Platform) → 1 ≤ p .processors → records (drop 4 file) 0 (jobOf p [] []) ≡ records (drop (4 + 5 * m) file) 0 (jobOf p (take m durations) []))
 StepsPassed file durations (Trouble k) =
     (p : Platform) → 1 ≤ p .processors → records (drop 4 file) 0 (jobOf p [] []) ≡ refused k
@@ -84,6 +88,7 @@ StepsPassed file durations (Trouble k) =
 abbrev pub LinksPassed : List ℕ → ℕ → List ℕ → List ℕ → List ℕ → Pass → Type 0
 LinksPassed file m from to counts (Count l) =
     (l ≤ 1024) × (4 + 5 * m + 5 * l < length file) × (getD file (4 + 5 * m + 5 * l) 0 ≡ 3 → ⊥)
+    × (length from ≡ 1024) × (length to ≡ 1024) × (length counts ≡ 1024)
     × (drop l from ≡ replicate (1024 - l) 0) × (drop l to ≡ replicate (1024 - l) 0) × (drop l counts ≡ replicate (1024 - l) 0)
     × ((p : Platform) (ts : List ℕ) → length ts ≡ m →
       records (drop (4 + 5 * m) file) 0 (jobOf p ts []) ≡ records (drop (4 + 5 * m + 5 * l) file) 0 (jobOf p ts (take l (edgesOf from to counts))))

@@ -1,3 +1,23 @@
+-- `parse::links`: the loop keeps that the answer to the file is the answer to its rest after the links taken; each turn is the judgement of one link.
+use mathlib.Core.Path.{_≡_, refl, ap, sym, _∙_}
+use mathlib.Core.List.{List, [], _∷_, _++_}
+use mathlib.Core.Option.{some}
+use Prim.Native.Nat.{ℕ, suc, _+_, _*_, _-_, _≤_, _<_}
+use native.Mathlib.Omega.{arith}
+use borrow.Author.Needs.{needs}
+use lib.ListN.{length, getD, take, drop, set, replicate, length-drop, length-set}
+use lib.Seq.{length-take-le, getD-drop, drop-drop}
+use Rattle.job.specs.declared.Platform.{Platform}
+use Rattle.job.specs.declared.parse.Pass.the-variants.{Count, Trouble}
+use Rattle.job.specs.Number.{number}
+use Rattle.job.specs.Job.{Edge}
+use Rattle.job.specs.Record.{link, kindOf, edgeIn}
+use Rattle.job.specs.Read.{Answer, refused, judged, records}
+use Rattle.job.specs.Write.{edgesOf}
+use Rattle.job.specs.Pass.{LinksPassed, jobOf, edge, key, linkTrouble}
+use Rattle.job.specs.Laws.Judged.{at-record, at-end, passOr, passes, stops, Above, above-none, above-more, link-crowded, link-short, link-at, past-body}
+use Rattle.job.specs.Laws.Spare.{spare-set, take-set}
+use Rattle.job.specs.Laws.Edges.{edges-set, Aligned, aligned, length-edges}
 use Rattle.job.proofs.parse.links.Statement.{statement}
 use Rattle.job.proofs.parse.links.Tie as tie
 use Rattle.job.proofs.parse.links.Reads as reads
@@ -6,119 +26,201 @@ use Rattle.job.proofs.record.key.Reads as key-reads
 use Rattle.job.proofs.record.link_trouble.Reads as link-trouble-reads
 use Rattle.job.proofs.record.number2.Reads as number2-reads
 
+-- l links stand in the file up to byte `at` and in the arrays, whose other places are 0; the answer is that to the rest after them
+record Going (file from to counts : List ℕ) (m l at least : ℕ) : Type 0 where
+  few : l ≤ 1024
+  place : at ≡ 4 + 5 * m + 5 * l
+  inside : at ≤ length file
+  long-from : length from ≡ 1024
+  long-to : length to ≡ 1024
+  long-counts : length counts ≡ 1024
+  spare-from : drop l from ≡ replicate (1024 - l) 0
+  spare-to : drop l to ≡ replicate (1024 - l) 0
+  spare-counts : drop l counts ≡ replicate (1024 - l) 0
+  above : Above (take l (edgesOf from to counts)) least
+  same : (p : Platform) (ts : List ℕ) → length ts ≡ m →
+      records (drop (4 + 5 * m) file) 0 (jobOf p ts []) ≡ records (drop at file) 0 (jobOf p ts (take l (edgesOf from to counts)))
+
+begun : (file from to counts : List ℕ) (m : ℕ) → from ≡ replicate 1024 0 → to ≡ replicate 1024 0 → counts ≡ replicate 1024 0 →
+    4 + 5 * m ≤ length file → Going file from to counts m 0 (4 + 5 * m) 0
+begun file from to counts m a b c h = record {
+  few = omega arith;
+  place = omega arith;
+  inside = h;
+  long-from = ap length a;
+  long-to = ap length b;
+  long-counts = ap length c;
+  spare-from = a;
+  spare-to = b;
+  spare-counts = c;
+  above = above-none;
+  same = λ p ts e. refl;
+}
+
+module _ (file from to counts : List ℕ) (m l at least : ℕ) (g : Going file from to counts m l at least) where
+  es : List Edge
+  es = take l (edgesOf from to counts)
+
+  all-aligned : Aligned from to counts
+  all-aligned = aligned from to counts 1024 (g .long-from) (g .long-to) (g .long-counts)
+
+  all-long : length (edgesOf from to counts) ≡ 1024
+  all-long = length-edges all-aligned ∙ g .long-from
+
+  taken : length es ≡ l
+  unfolding es
+  taken = length-take-le l (edgesOf from to counts) (omega (arith, g .few, all-long))
+
+  ended : length file ≤ at → LinksPassed file m from to counts (Trouble 1)
+  ended h p ts e = g .same p ts e ∙ at-end file at _ h
+
+  module _ (h : at < length file) where
+    other : (getD file at 0 ≡ 3 → ⊥) → LinksPassed file m from to counts (Count l)
+    other k =
+        (g .few, rw (g .place) at h, rw (g .place) at k, g .long-from, g .long-to, g .long-counts, g .spare-from, g .spare-to, g .spare-counts, λ p ts e. rw (g .place) at (g .same p ts e))
+
+    module _ (tasked : 1 ≤ m) (k : getD file at 0 ≡ 3) where
+      -- what the record at this place comes to, after any m steps, of which there is one
+      after-steps : (f : Platform → List ℕ → Answer) →
+          ((p : Platform) (t : ℕ) (ts : List ℕ) → length (t ∷ ts) ≡ m → judged (some link) (drop (suc at) file) (jobOf p (t ∷ ts) es) (records (drop (suc at) file)) ≡ f p (t ∷ ts)) →
+          (p : Platform) (ts : List ℕ) → length ts ≡ m → records (drop (4 + 5 * m) file) 0 (jobOf p ts []) ≡ f p ts
+      unfolding kindOf es
+      after-steps f j p [] e = absurd (let z : ⊥ = omega arith in z)
+      after-steps f j p (t ∷ ts) e = g .same p (t ∷ ts) e ∙ at-record file at _ h ∙ rw k (j p t ts e)
+
+      crowd : l ≡ 1024 → LinksPassed file m from to counts (Trouble 5)
+      crowd e = after-steps (λ p ts. refused 5) (λ p t ts i. link-crowded _ p t ts es _ (omega (arith, taken)))
+
+      cut : l < 1024 → length file - at < 5 → LinksPassed file m from to counts (Trouble 1)
+      cut f s = after-steps (λ p ts. refused 1) (λ p t ts i. link-short _ p t ts es _ (omega (arith, taken)) (simp length-drop (omega arith)))
+
+      module _ (f : l < 1024) (s : at + 5 ≤ length file) (x y n : ℕ) (xi : x ≡ getD file (at + 1) 0) (yi : y ≡ getD file (at + 2) 0)
+          (ni : n ≡ number (take 2 (drop (at + 3) file))) (byte : y < 256) where
+        edge-is : edgeIn (drop (suc at) file) ≡ edge x y n
+        unfolding edgeIn
+        edge-is =
+            let a : suc at + 0 ≡ at + 1 = omega arith in
+            let b : suc at + 1 ≡ at + 2 = omega arith in
+            let d : suc at + 2 ≡ at + 3 = omega arith in
+            rw (getD-drop (suc at) file 0 0, getD-drop (suc at) file 1 0, drop-drop 2 (suc at) file, a, b, d, ← xi, ← yi, ← ni)
+
+        link-is : (p : Platform) (ts : List ℕ) → length ts ≡ m →
+            records (drop (4 + 5 * m) file) 0 (jobOf p ts []) ≡ passOr (linkTrouble m least (edge x y n)) (records (drop (at + 5) file) 0 (jobOf p ts (es ++ (edge x y n ∷ []))))
+        unfolding es
+        link-is =
+            after-steps (λ p ts. passOr (linkTrouble m least (edge x y n)) (records (drop (at + 5) file) 0 (jobOf p ts (es ++ (edge x y n ∷ [])))))
+            (λ p t ts i. link-at _ p t ts es _ least (omega (arith, taken)) (simp length-drop (omega arith)) (rw edge-is (g .above (edge x y n) byte))
+              ∙ rw (edge-is, i) (ap (passOr (linkTrouble m least (edge x y n))) (past-body file at _)))
+
+        bad : (t : ℕ) → t ≡ linkTrouble m least (edge x y n) → (t ≡ 0 → ⊥) → LinksPassed file m from to counts (Trouble t)
+        bad t i z p ts e = link-is p ts e ∙ rw (← i) (stops t _ z)
+
+        grown : take (l + 1) (edgesOf (set from l x) (set to l y) (set counts l n)) ≡ es ++ (edge x y n ∷ [])
+        unfolding es
+        grown = ap (λ (w : List Edge). take (l + 1) w) (edges-set from to counts l x y n) ∙ take-set (edgesOf from to counts) l (edge x y n) (omega (arith, all-long))
+
+        on : (q : ℕ) → q ≡ 256 * x + y → linkTrouble m least (edge x y n) ≡ 0 → Going file (set from l x) (set to l y) (set counts l n) m (l + 1) (at + 5) (q + 1)
+        unfolding key
+        on q i z = record {
+          few = omega arith;
+          place = omega (arith, g .place);
+          inside = s;
+          long-from = length-set from l x ∙ g .long-from;
+          long-to = length-set to l y ∙ g .long-to;
+          long-counts = length-set counts l n ∙ g .long-counts;
+          spare-from = spare-set 1024 l from (g .long-from) x f (g .spare-from);
+          spare-to = spare-set 1024 l to (g .long-to) y f (g .spare-to);
+          spare-counts = spare-set 1024 l counts (g .long-counts) n f (g .spare-counts);
+          above = rw (grown, i) (above-more es (edge x y n) byte);
+          same = λ p ts e. link-is p ts e ∙ passes _ _ z ∙ ap (λ (w : List Edge). records (drop (at + 5) file) 0 (jobOf p ts w)) (sym grown);
+        }
+
 abbrev Inv-loop : tie.InvT-loop
-Inv-loop file tasks from₀ to₀ counts₀ l₀ at₀ least₀ from to counts l at least = ?
+Inv-loop file tasks from₀ to₀ counts₀ l₀ at₀ least₀ from to counts l at least = (1 ≤ tasks) × (tasks ≤ 256) × Going file from to counts tasks l at least
 
 abbrev μ-loop : tie.MeasureT-loop
-μ-loop file tasks from₀ to₀ counts₀ l₀ at₀ least₀ from to counts l at least = ?
+μ-loop file tasks from₀ to₀ counts₀ l₀ at₀ least₀ from to counts l at least = length file - at
 
--- src/parse.rt:90:29
 mul-at : tie.Need-mul-at Inv-loop μ-loop
-mul-at c = ?
+mul-at c = search needs
 
--- src/parse.rt:90:25
 add-at : tie.Need-add-at Inv-loop μ-loop
-add-at c = ?
+add-at c = search needs
 
--- src/parse.rt:92:5
 loop-holds : tie.Need-loop-holds Inv-loop μ-loop
-loop-holds c = ?
+loop-holds c = (search needs, search needs, begun _ _ _ _ _ (c .before .pre .1 .0) (c .before .pre .1 .1) (c .before .pre .1 .2) (search needs))
 
--- src/parse.rt:93:12
 shared-slice-read-if1 : tie.Need-shared-slice-read-if1 Inv-loop μ-loop
-shared-slice-read-if1 c = ?
+shared-slice-read-if1 c = search needs
 
--- src/parse.rt:94:13
 returns : tie.Need-returns Inv-loop μ-loop
-returns c = ?
+returns c = other _ _ _ _ _ _ _ _ (c .before .before .before .loop .inv .2) (search needs) (c .if1 .taken)
 
--- src/parse.rt:97:13
 returns-2 : tie.Need-returns-2 Inv-loop μ-loop
-returns-2 c = ?
+returns-2 c = crowd _ _ _ _ _ _ _ _ (c .before .before .before .before .loop .inv .2) (search needs) (c .before .before .before .before .loop .inv .0) (c .before .if1 .left) (c .if2 .taken)
 
--- src/parse.rt:99:12
 sub-if3 : tie.Need-sub-if3 Inv-loop μ-loop
-sub-if3 c = ?
+sub-if3 c = search needs
 
--- src/parse.rt:100:13
 returns-3 : tie.Need-returns-3 Inv-loop μ-loop
-returns-3 c = ?
+returns-3 c = cut _ _ _ _ _ _ _ _ (c .before .before .before .before .before .loop .inv .2) (search needs) (c .before .before .before .before .before .loop .inv .0) (c .before .before .if1 .left) (search needs) (c .if3 .taken)
 
--- src/parse.rt:102:22
 add-f : tie.Need-add-f Inv-loop μ-loop
-add-f c = ?
+add-f c = search needs
 
--- src/parse.rt:102:17
 shared-slice-read-f : tie.Need-shared-slice-read-f Inv-loop μ-loop
-shared-slice-read-f c = ?
+shared-slice-read-f c = search needs
 
--- src/parse.rt:103:22
 add-t : tie.Need-add-t Inv-loop μ-loop
-add-t c = ?
+add-t c = search needs
 
--- src/parse.rt:103:17
 shared-slice-read-t : tie.Need-shared-slice-read-t Inv-loop μ-loop
-shared-slice-read-t c = ?
+shared-slice-read-t c = search needs
 
--- src/parse.rt:104:43
 add-number2 : tie.Need-add-number2 Inv-loop μ-loop
-add-number2 c = ?
+add-number2 c = search needs
 
--- src/parse.rt:104:13
 number2-requires : tie.Need-number2-requires Inv-loop μ-loop
-number2-requires c κs = ?
+number2-requires c κs = search needs
 
--- src/parse.rt:105:13
 link-trouble-requires : tie.Need-link-trouble-requires Inv-loop μ-loop
-link-trouble-requires c κs = ?
+link-trouble-requires c κs = search needs
 
--- src/parse.rt:107:13
 returns-4 : tie.Need-returns-4 Inv-loop μ-loop
-returns-4 c = ?
+returns-4 c = bad _ _ _ _ _ _ _ _ (c .before .before .before .before .before .before .before .before .before .before .loop .inv .2) (search needs) (c .before .before .before .before .before .before .before .before .before .before .loop .inv .0) (c .before .before .before .before .before .before .before .if1 .left) (search needs) (search needs) _ _ _ refl refl (c .before .before .number2 .ensures) ((c .before .before .before .shared-slice-known4 .given (c .before .before .before .before .before .before .before .before .before .before .loop .at + 2)) .fits) _ (c .before .link-trouble .ensures) (c .if4 .taken)
 
--- src/parse.rt:109:9
 element-write-from : tie.Need-element-write-from Inv-loop μ-loop
-element-write-from c = ?
+element-write-from c = search needs
 
--- src/parse.rt:110:9
 element-write-to : tie.Need-element-write-to Inv-loop μ-loop
-element-write-to c = ?
+element-write-to c = search needs
 
--- src/parse.rt:111:9
 mul-counts : tie.Need-mul-counts Inv-loop μ-loop
-mul-counts c = ?
+mul-counts c = search needs
 
--- src/parse.rt:111:9
 element-write-counts : tie.Need-element-write-counts Inv-loop μ-loop
-element-write-counts c = ?
+element-write-counts c = search needs
 
--- src/parse.rt:112:17
 key-requires : tie.Need-key-requires Inv-loop μ-loop
-key-requires c κs = ?
+key-requires c κs = search needs
 
--- src/parse.rt:112:17
 add-least : tie.Need-add-least Inv-loop μ-loop
-add-least c = ?
+add-least c = search needs
 
--- src/parse.rt:113:9
 add-l : tie.Need-add-l Inv-loop μ-loop
-add-l c = ?
+add-l c = search needs
 
--- src/parse.rt:114:9
 add-at-2 : tie.Need-add-at-2 Inv-loop μ-loop
-add-at-2 c = ?
+add-at-2 c = search needs
 
--- src/parse.rt:92:5
 loop-less : tie.Need-loop-less Inv-loop μ-loop
-loop-less c = ?
+loop-less c = search needs
 
--- src/parse.rt:92:5
 loop-again : tie.Need-loop-again Inv-loop μ-loop
-loop-again c = ?
+loop-again c = (search needs, search needs, on _ _ _ _ _ _ _ _ (c .before .before .before .before .before .before .before .before .before .before .before .loop .inv .2) (search needs) (c .before .before .before .before .before .before .before .before .before .before .before .loop .inv .0) (c .before .before .before .before .before .before .before .before .if1 .left) (search needs) (search needs) _ _ _ refl refl (c .before .before .before .number2 .ensures) ((c .before .before .before .before .shared-slice-known4 .given (c .before .before .before .before .before .before .before .before .before .before .before .loop .at + 2)) .fits) _ (c .key .ensures .0) (sym (c .before .before .link-trouble .ensures) ∙ c .before .if4 .left))
 
--- src/parse.rt:84:1
 returns-5 : tie.Need-returns-5 Inv-loop μ-loop
-returns-5 c = ?
+returns-5 c = ended _ _ _ _ _ _ _ _ (c .before .loop .inv .2) (c .loop-test .left)
 
 pub links-spec : {M : Type 1} → statement M
 links-spec =

@@ -1,3 +1,10 @@
+-- `record::link_trouble`: each return is one case of the definition, in plain numbers.
+use mathlib.Core.Path.{_≡_, refl}
+use Prim.Native.Nat.{ℕ, _+_, _*_, _<_, _≤_}
+use native.Mathlib.Omega.{arith}
+use borrow.Author.Tests.{lt-ltb, le-ltb, le-leb, lt-leb}
+use Rattle.job.specs.Record.{countInRange, joins}
+use Rattle.job.specs.Pass.{edge, key, linkTrouble}
 use borrow.Author.Needs.{needs}
 use Rattle.job.proofs.record.link_trouble.Statement.{statement}
 use Rattle.job.proofs.record.link_trouble.Tie as tie
@@ -5,33 +12,56 @@ use Rattle.job.proofs.record.link_trouble.Reads as reads
 use Rattle.job.proofs.record.link_trouble.Lts as lts
 use Rattle.job.proofs.record.key.Reads as key-reads
 
--- src/record.rt:74:9
+module _ (m least f t n : ℕ) where
+  low : n < 1 → 4 ≡ linkTrouble m least (edge f t n)
+  unfolding linkTrouble countInRange
+  low a = simp (lt-leb _ _ a)
+
+  high : 1 ≤ n → 1000 < n → 4 ≡ linkTrouble m least (edge f t n)
+  unfolding linkTrouble countInRange
+  high a b = simp (le-leb _ _ a, lt-leb _ _ b)
+
+  backward : 1 ≤ n → n ≤ 1000 → t ≤ f → 6 ≡ linkTrouble m least (edge f t n)
+  unfolding linkTrouble countInRange joins
+  backward a b d = simp (le-leb _ _ a, le-leb _ _ b, le-ltb _ _ d)
+
+  absent : 1 ≤ n → n ≤ 1000 → f < t → m ≤ t → 6 ≡ linkTrouble m least (edge f t n)
+  unfolding linkTrouble countInRange joins
+  absent a b d e = simp (le-leb _ _ a, le-leb _ _ b, lt-ltb _ _ d, le-ltb _ _ e)
+
+  module _ (a : 1 ≤ n) (b : n ≤ 1000) (d : f < t) (e : t < m) (k : ℕ) (is : k ≡ 256 * f + t) where
+    not-above : k < least → 7 ≡ linkTrouble m least (edge f t n)
+    unfolding linkTrouble countInRange joins key
+    not-above g =
+        let g′ : 256 * f + t < least = omega arith in
+        simp (le-leb _ _ a, le-leb _ _ b, lt-ltb _ _ d, lt-ltb _ _ e, lt-ltb _ _ g′)
+
+    none : least ≤ k → 0 ≡ linkTrouble m least (edge f t n)
+    unfolding linkTrouble countInRange joins key
+    none g =
+        let g′ : least ≤ 256 * f + t = omega arith in
+        simp (le-leb _ _ a, le-leb _ _ b, lt-ltb _ _ d, lt-ltb _ _ e, le-ltb _ _ g′)
+
 returns : tie.Need-returns
-returns c = ?
+returns c = low _ _ _ _ _ (c .if1 .taken)
 
--- src/record.rt:77:9
 returns-2 : tie.Need-returns-2
-returns-2 c = ?
+returns-2 c = high _ _ _ _ _ (c .before .if1 .left) (c .if2 .taken)
 
--- src/record.rt:80:9
 returns-3 : tie.Need-returns-3
-returns-3 c = ?
+returns-3 c = backward _ _ _ _ _ (c .before .before .if1 .left) (c .before .if2 .left) (c .if3 .taken)
 
--- src/record.rt:83:9
 returns-4 : tie.Need-returns-4
-returns-4 c = ?
+returns-4 c = absent _ _ _ _ _ (c .before .before .before .if1 .left) (c .before .before .if2 .left) (c .before .if3 .left) (c .if4 .taken)
 
--- src/record.rt:85:8
 key-requires : tie.Need-key-requires
 key-requires c κs = search needs
 
--- src/record.rt:86:9
 returns-5 : tie.Need-returns-5
-returns-5 c = ?
+returns-5 c = not-above _ _ _ _ _ (c .before .before .before .before .before .if1 .left) (c .before .before .before .before .if2 .left) (c .before .before .before .if3 .left) (c .before .before .if4 .left) _ (c .before .key .ensures .0) (c .if5 .taken)
 
--- src/record.rt:70:1
 returns-6 : tie.Need-returns-6
-returns-6 c = ?
+returns-6 c = none _ _ _ _ _ (c .before .before .before .before .before .if1 .left) (c .before .before .before .before .if2 .left) (c .before .before .before .if3 .left) (c .before .before .if4 .left) _ (c .before .key .ensures .0) (c .if5 .left)
 
 pub link-trouble-spec : {M : Type 1} → statement M
 link-trouble-spec =

@@ -1,27 +1,31 @@
+-- `record::platform_trouble`: each return rewrites with the tests that led there.
+use Rattle.job.specs.Record.{platformInRange, durationInRange}
+use Rattle.job.specs.Pass.{platformTrouble, stepTrouble}
+use borrow.Author.Tests.{le-leb, lt-leb}
 use Rattle.job.proofs.record.platform_trouble.Statement.{statement}
 use Rattle.job.proofs.record.platform_trouble.Tie as tie
 use Rattle.job.proofs.record.platform_trouble.Reads as reads
 use Rattle.job.proofs.record.platform_trouble.Lts as lts
 
--- src/record.rt:36:9
 returns : tie.Need-returns
-returns c = ?
+unfolding platformTrouble platformInRange
+returns c = simp (lt-leb _ _ (c .if1 .taken))
 
--- src/record.rt:39:9
 returns-2 : tie.Need-returns-2
-returns-2 c = ?
+unfolding platformTrouble platformInRange
+returns-2 c = simp (le-leb _ _ (c .before .if1 .left), lt-leb _ _ (c .if2 .taken))
 
--- src/record.rt:42:9
 returns-3 : tie.Need-returns-3
-returns-3 c = ?
+unfolding platformTrouble platformInRange
+returns-3 c = simp (le-leb _ _ (c .before .before .if1 .left), le-leb _ _ (c .before .if2 .left), lt-leb _ _ (c .if3 .taken))
 
--- src/record.rt:45:9
 returns-4 : tie.Need-returns-4
-returns-4 c = ?
+unfolding platformTrouble platformInRange
+returns-4 c = simp (le-leb _ _ (c .before .before .before .if1 .left), le-leb _ _ (c .before .before .if2 .left), le-leb _ _ (c .before .if3 .left), lt-leb _ _ (c .if4 .taken))
 
--- src/record.rt:32:1
 returns-5 : tie.Need-returns-5
-returns-5 c = ?
+unfolding platformTrouble platformInRange
+returns-5 c = simp (le-leb _ _ (c .before .before .before .if1 .left), le-leb _ _ (c .before .before .if2 .left), le-leb _ _ (c .before .if3 .left), le-leb _ _ (c .if4 .left))
 
 pub platform-trouble-spec : {M : Type 1} → statement M
 platform-trouble-spec = tie.close (tie.spec returns returns-2 returns-3 returns-4 returns-5)

@@ -1,19 +1,23 @@
+-- `record::step_trouble`: each return rewrites with the tests that led there.
+use Rattle.job.specs.Record.{platformInRange, durationInRange}
+use Rattle.job.specs.Pass.{platformTrouble, stepTrouble}
+use borrow.Author.Tests.{le-leb, lt-leb}
 use Rattle.job.proofs.record.step_trouble.Statement.{statement}
 use Rattle.job.proofs.record.step_trouble.Tie as tie
 use Rattle.job.proofs.record.step_trouble.Reads as reads
 use Rattle.job.proofs.record.step_trouble.Lts as lts
 
--- src/record.rt:54:9
 returns : tie.Need-returns
-returns c = ?
+unfolding stepTrouble durationInRange
+returns c = simp (lt-leb _ _ (c .if1 .taken))
 
--- src/record.rt:57:9
 returns-2 : tie.Need-returns-2
-returns-2 c = ?
+unfolding stepTrouble durationInRange
+returns-2 c = simp (le-leb _ _ (c .before .if1 .left), lt-leb _ _ (c .if2 .taken))
 
--- src/record.rt:50:1
 returns-3 : tie.Need-returns-3
-returns-3 c = ?
+unfolding stepTrouble durationInRange
+returns-3 c = simp (le-leb _ _ (c .before .if1 .left), le-leb _ _ (c .if2 .left))
 
 pub step-trouble-spec : {M : Type 1} → statement M
 step-trouble-spec = tie.close (tie.spec returns returns-2 returns-3)

@@ -1,0 +1,105 @@
+-- What holds of every accepted job, and of the arrays that the reader returns for it. Whoever stands above the reader
+-- cites these and never the definition's text.
+use mathlib.Core.Bool.{true, false}
+use mathlib.Core.Logic.{_⊎_}
+use mathlib.Core.Path.{_≡_, refl, _∙_}
+use mathlib.Core.List.{List}
+use Prim.Native.Nat.{ℕ, suc, _≤_, _<_}
+use lib.ListN.{length, getD, List·getD-eq-default}
+use Rattle.job.specs.declared.Verdict.the-variants.{Counts}
+use Rattle.job.specs.declared.Reading.{Reading}
+use Rattle.job.specs.Job.{Edge, Job, blank}
+use Rattle.job.specs.Read.{Answer, accepted, refused, readJob, readingOf}
+use Rattle.job.specs.Laws.Turn.{reads}
+use Rattle.job.specs.Laws.Lists.{padded-length, padded-at, column-length, column-at, column-spare}
+use Rattle.job.specs.Laws.Tests.{never, platform-facts, duration-facts, count-facts, joins-facts, rises-facts}
+use Rattle.job.specs.Laws.Kept.{noEdge, nothing, kept}
+
+-- the duration of task t
+abbrev pub duration : Job → ℕ → ℕ
+duration j t = getD (j .tasks) t 0
+
+-- edge i of a job
+abbrev pub edgeAt : Job → ℕ → Edge
+edgeAt j i = getD (j .edges) i (record { from = 0; to = 0; count = 0 })
+
+-- 01: "Links rise strictly by from, then by to"
+abbrev pub Before : Edge → Edge → Type 0
+Before a b = (a .from < b .from) ⊎ ((a .from ≡ b .from) × (a .to < b .to))
+
+pub record Accepted (j : Job) : Type 0 where
+  pub some-processor : 1 ≤ j .platform .processors
+  pub few-processors : j .platform .processors ≤ 16
+  pub known-topology : j .platform .topology ≤ 2
+  pub small-unit : j .platform .unit ≤ 100
+  pub some-task : 1 ≤ length (j .tasks)
+  pub few-tasks : length (j .tasks) ≤ 256
+  pub long-enough : (t : ℕ) → t < length (j .tasks) → 1 ≤ duration j t
+  pub short-enough : (t : ℕ) → t < length (j .tasks) → duration j t ≤ 1000000
+  pub few-edges : length (j .edges) ≤ 1024
+  pub forward : (i : ℕ) → i < length (j .edges) → edgeAt j i .from < edgeAt j i .to
+  pub within : (i : ℕ) → i < length (j .edges) → edgeAt j i .to < length (j .tasks)
+  pub some-message : (i : ℕ) → i < length (j .edges) → 1 ≤ edgeAt j i .count
+  pub few-messages : (i : ℕ) → i < length (j .edges) → edgeAt j i .count ≤ 1000
+  pub rising : (i : ℕ) → suc i < length (j .edges) → Before (edgeAt j i) (edgeAt j (suc i))
+
+pub accepted-job : (file : List ℕ) (j : Job) → readJob file ≡ accepted j → Accepted j
+unfolding readJob
+accepted-job file j e =
+    let k = kept (reads file 0 blank) nothing j e in
+    let p = platform-facts (j .platform) (k .0 .platform-right) in
+    record {
+      some-processor = p .0;
+      few-processors = p .1;
+      known-topology = p .2;
+      small-unit = p .3;
+      some-task = k .1;
+      few-tasks = k .0 .few-tasks;
+      long-enough = λ t h. duration-facts (duration j t) (k .0 .tasks-right t h) .0;
+      short-enough = λ t h. duration-facts (duration j t) (k .0 .tasks-right t h) .1;
+      few-edges = k .0 .few-edges;
+      forward = λ i h. joins-facts (length (j .tasks)) (edgeAt j i) (k .0 .edges-join i h) .0;
+      within = λ i h. joins-facts (length (j .tasks)) (edgeAt j i) (k .0 .edges-join i h) .1;
+      some-message = λ i h. count-facts (edgeAt j i .count) (k .0 .counts-right i h) .0;
+      few-messages = λ i h. count-facts (edgeAt j i .count) (k .0 .counts-right i h) .1;
+      rising = λ i h. rises-facts (edgeAt j i) (edgeAt j (suc i)) (k .0 .edges-rise i h);
+    }
+
+-- a verdict with counts comes with an accepted job that has those counts
+pub counted : (a : Answer) (m l : ℕ) → readingOf a .verdict ≡ Counts m l →
+    (j : Job) × (a ≡ accepted j) × (length (j .tasks) ≡ m) × (length (j .edges) ≡ l)
+unfolding readingOf
+counted (accepted j) m l e = (j, refl, cc, cc)
+counted (refused k) m l e = let z : false ≡ true = cc in never z
+
+-- the arrays of a reading r of an accepted job j
+pub record Arrays (r : Reading) (j : Job) : Type 0 where
+  pub durations-length : length (r .durations) ≡ 256
+  pub from-length : length (r .from) ≡ 1024
+  pub to-length : length (r .to) ≡ 1024
+  pub counts-length : length (r .counts) ≡ 1024
+  pub duration-at : (t : ℕ) → getD (r .durations) t 0 ≡ duration j t
+  pub from-at : (i : ℕ) → getD (r .from) i 0 ≡ edgeAt j i .from
+  pub to-at : (i : ℕ) → getD (r .to) i 0 ≡ edgeAt j i .to
+  pub count-at : (i : ℕ) → getD (r .counts) i 0 ≡ edgeAt j i .count
+  pub spare-durations : (t : ℕ) → length (j .tasks) ≤ t → getD (r .durations) t 0 ≡ 0
+  pub spare-from : (i : ℕ) → length (j .edges) ≤ i → getD (r .from) i 0 ≡ 0
+  pub spare-to : (i : ℕ) → length (j .edges) ≤ i → getD (r .to) i 0 ≡ 0
+  pub spare-counts : (i : ℕ) → length (j .edges) ≤ i → getD (r .counts) i 0 ≡ 0
+
+pub arrays : (j : Job) → Accepted j → Arrays (readingOf (accepted j)) j
+unfolding readingOf
+arrays j a = record {
+  durations-length = padded-length 256 (j .tasks) (a .few-tasks);
+  from-length = column-length (λ e. e .from) noEdge refl (j .edges) (a .few-edges);
+  to-length = column-length (λ e. e .to) noEdge refl (j .edges) (a .few-edges);
+  counts-length = column-length (λ e. e .count) noEdge refl (j .edges) (a .few-edges);
+  duration-at = padded-at 256 (j .tasks);
+  from-at = column-at (λ e. e .from) noEdge refl (j .edges);
+  to-at = column-at (λ e. e .to) noEdge refl (j .edges);
+  count-at = column-at (λ e. e .count) noEdge refl (j .edges);
+  spare-durations = λ t h. padded-at 256 (j .tasks) t ∙ List·getD-eq-default (j .tasks) 0 h;
+  spare-from = column-spare (λ e. e .from) noEdge refl (j .edges);
+  spare-to = column-spare (λ e. e .to) noEdge refl (j .edges);
+  spare-counts = column-spare (λ e. e .count) noEdge refl (j .edges);
+}

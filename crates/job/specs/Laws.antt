@@ -1,0 +1,16 @@
+-- What follows from the definitions and serves the proofs; a reader of the contracts needs none of it.
+pub mod Number
+pub mod Judged
+pub mod Kinds
+pub mod Spare
+pub mod Edges
+pub mod Tests
+pub mod Turn
+pub mod Lists
+pub mod Halt
+pub mod Kept
+pub mod Encoded
+pub mod Written
+pub mod Held
+pub mod Rewritten
+pub mod Prefix

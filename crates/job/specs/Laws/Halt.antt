@@ -1,0 +1,104 @@
+-- Where the reader halts, and why: the chain of turns is followed from the file's start to the turn that refuses.
+-- Then the writer's refusals, by its tests.
+use mathlib.Core.Bool.{Bool, true, false, _||_}
+use mathlib.Core.Logic.{_⊎_, inl, inr}
+use mathlib.Core.Path.{_≡_, refl, ap, _∙_}
+use mathlib.Core.List.{List, _∷_}
+use mathlib.Core.Option.{Option, some}
+use Prim.Native.Nat.{ℕ, suc, _+_, _≤_, _<_}
+use native.Mathlib.Omega.{arith}
+use borrow.Author.Tests.{ltb-true}
+use lib.Dec.{ltb}
+use lib.ListN.{length, getD, drop, length-drop}
+use lib.Seq.{drop-cons, drop-drop}
+use Rattle.job.specs.declared.Written.{Written}
+use Rattle.job.specs.declared.Written.the-variants.{Length, Refused}
+use Rattle.job.specs.Number.{pick}
+use Rattle.job.specs.Job.{Job, blank}
+use Rattle.job.specs.Record.{Kind, rack, step, link, end, kindOf, bodyLength, added}
+use Rattle.job.specs.Read.{Answer, accepted, refused, after, records, readJob}
+use Rattle.job.specs.Write.{roomFor}
+use Rattle.job.specs.Cause.{Cause, cut, unknown, misplaced, out-of-range, too-many, bad-ends, not-above, bytes-after}
+use Rattle.job.specs.Laws.Judged.{skip, whole}
+use Rattle.job.specs.Laws.Turn.{Fits, Reads, no-more, halted, past, closed, reads}
+use Rattle.job.specs.Laws.Lists.{at-place}
+use Rattle.job.specs.Laws.Tests.{never}
+
+-- after a record without trouble that has a body, what is left to judge stands past the body
+passed : (k : Kind) (rest : List ℕ) (j : Job) (more : ℕ → Job → Answer) → 1 ≤ bodyLength k → after k rest j more ≡ more (bodyLength k) (added j k rest)
+unfolding after bodyLength
+passed rack rest j more h = refl
+passed step rest j more h = refl
+passed link rest j more h = refl
+passed end rest j more h = let n : ⊥ = omega arith in absurd n
+
+pub onward : (b : ℕ) (rest : List ℕ) (j : Job) (k : Kind) → kindOf b ≡ some k → 1 ≤ bodyLength k → Fits rest j k →
+    records (b ∷ rest) 0 j ≡ records (drop (bodyLength k) rest) 0 (added j k rest)
+unfolding records
+onward b rest j k e h f = rw e (whole k rest j (records rest) (f .placed) (f .room) (f .whole)
+    ∙ simp (f .ranges, f .ends, f .order) (passed k rest j (records rest) h ∙ skip rest (bodyLength k) (added j k rest)))
+
+-- the reader comes to this place of the file with this job so far, past records without trouble
+pub data Reached (file : List ℕ) : ℕ → Job → Type 0 where
+  start : Reached file 0 blank
+  next : {at : ℕ} {j : Job} (k : Kind) → Reached file at j → at < length file → kindOf (getD file at 0) ≡ some k → 1 ≤ bodyLength k →
+      Fits (drop (suc at) file) j k → Reached file (suc at + bodyLength k) (added j k (drop (suc at) file))
+
+pub reached-answer : (file : List ℕ) {at : ℕ} {j : Job} → Reached file at j → readJob file ≡ records (drop at file) 0 j
+unfolding readJob
+reached-answer file start = refl
+reached-answer file (next {at} {j} k r l t h f) =
+    reached-answer file r ∙ rw (drop-cons file at 0, ← drop-drop) (onward (getD file at 0) (drop (suc at) file) j k t h f)
+
+-- a refusal: it comes at a place reached, where the file ends or the record has the number's cause
+abbrev pub Halt : List ℕ → ℕ → Type 0
+Halt file n = (at : ℕ) × (j : Job) × Reached file at j
+    × (((length file ≤ at) × (n ≡ 1)) ⊎ ((at < length file) × Cause (drop (suc at) file) j (kindOf (getD file at 0)) n))
+
+halt : (file : List ℕ) (n : ℕ) {xs : List ℕ} {j : Job} {a : Answer} → Reads xs j a → (at : ℕ) → drop at file ≡ xs →
+    Reached file at j → a ≡ refused n → Halt file n
+halt file n (no-more {j}) at q r e = (at, j, r, inl (omega (arith, simp length-drop at (ap length q)), cc))
+halt file n (halted {b} {rest} {j} {n = m} c) at q r e =
+    let p = at-place file at b rest q in
+    let i : n ≡ m = cc in
+    (at, j, r, inr (p .0, rw (p .2, p .1, i) c))
+halt file n (past {b} {rest} {j} k t h f s) at q r e =
+    let p = at-place file at b rest q in
+    let t′ : kindOf (getD file at 0) ≡ some k = rw (p .1) t in
+    let f′ : Fits (drop (suc at) file) j k = rw (p .2) f in
+    halt file n s (suc at + bodyLength k) (rw (← drop-drop, p .2)) (rw (p .2) at (next k r (p .0) t′ h f′)) e
+halt file n (closed t f h) at q r e = let z : false ≡ true = cc in never z
+
+pub halts-at : (file : List ℕ) (n : ℕ) → readJob file ≡ refused n → Halt file n
+unfolding readJob
+halts-at file n e = halt file n (reads file 0 blank) 0 refl start e
+
+-- the numbers of causes are 1 to 8
+pub cause-number : {rest : List ℕ} {j : Job} {o : Option Kind} {n : ℕ} → Cause rest j o n → (1 ≤ n) × (n ≤ 8)
+cause-number (cut h) = omega arith
+cause-number unknown = omega arith
+cause-number (misplaced h) = omega arith
+cause-number (out-of-range h) = omega arith
+cause-number (too-many h) = omega arith
+cause-number (bad-ends h) = omega arith
+cause-number (not-above h) = omega arith
+cause-number (bytes-after h) = omega arith
+
+-- the writer's refusal: for a count, or else what the room and the reader's answer give
+pub count-refused : (m l n : ℕ) (w : Written) → pick (ltb 256 m || ltb 1024 l) (Refused 5) w ≡ Refused n →
+    ((n ≡ 5) × ((256 < m) ⊎ (1024 < l))) ⊎ (w ≡ Refused n)
+count-refused m l n w e = go (ltb 256 m) (ltb 1024 l) refl refl e
+  where
+    go : (p q : Bool) → ltb 256 m ≡ p → ltb 1024 l ≡ q → pick (p || q) (Refused 5) w ≡ Refused n → ((n ≡ 5) × ((256 < m) ⊎ (1024 < l))) ⊎ (w ≡ Refused n)
+    go true q hp hq h = inl (cc, inl (ltb-true _ _ hp))
+    go false true hp hq h = inl (cc, inr (ltb-true _ _ hq))
+    go false false hp hq h = inr h
+
+pub room-refused : (k n : ℕ) (out : List ℕ) (a : Answer) → roomFor k out a ≡ Refused n → (a ≡ refused n) ⊎ ((n ≡ 9) × (length out < k))
+unfolding roomFor
+room-refused k n out (refused i) e = inl (cc)
+room-refused k n out (accepted j) e = go (ltb (length out) k) refl e
+  where
+    go : (b : Bool) → ltb (length out) k ≡ b → pick b (Refused 9) (Length k) ≡ Refused n → (accepted j ≡ refused n) ⊎ ((n ≡ 9) × (length out < k))
+    go true hb h = inr (cc, ltb-true _ _ hb)
+    go false hb h = inl (cc)

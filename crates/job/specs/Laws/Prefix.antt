@@ -1,0 +1,133 @@
+-- How much of a file settles its answer: a record is judged by its body, and by whether a byte is left at the end record, so the bytes that the records still to come can
+-- have are enough (`need`). By induction on the file.
+use mathlib.Core.Bool.{Bool, true, false, not}
+use mathlib.Core.Logic.{⊎-elim}
+use mathlib.Core.Path.{_≡_, refl, _∙_, sym}
+use mathlib.Core.List.{List, [], _∷_}
+use mathlib.Core.Option.{Option, none, some}
+use Prim.Native.Nat.{ℕ, zero, suc, _+_, _*_, _-_, _<_, _≤_}
+use native.Mathlib.Omega.{arith}
+use borrow.Author.Tests.{leb-false, lt-ltb, le-ltb, ne-eqb}
+use lib.Dec.{ltb}
+use lib.ListN.{length, take, length-append, length-take}
+use lib.Seq.{take-nil, take-take, getD-take}
+use Rattle.job.specs.Number.{pick}
+use Rattle.job.specs.Job.{Job, blank}
+use Rattle.job.specs.Record.{Kind, rack, step, link, end, kindOf, bodyLength, empty, noRack, stands, full, inRange, endsRight, inOrder, added, platformIn, durationIn, edgeIn}
+use Rattle.job.specs.Read.{Answer, refused, after, judged, records, readJob}
+use Rattle.job.specs.Laws.Number.{lt-or-ge}
+use Rattle.job.specs.Laws.Judged.{misplaced, crowded}
+use Rattle.job.specs.Laws.Tests.{platform-facts}
+
+-- the most bytes that the records after the job so far have, and one byte after the end record
+need : Job → ℕ
+need j = 5 * (256 - length (j .tasks)) + 5 * (1024 - length (j .edges)) + pick (noRack j) 6 2
+
+-- the values of a body stand in its bytes
+platform-prefix : (n : ℕ) (rest : List ℕ) → 3 ≤ n → platformIn (take n rest) ≡ platformIn rest
+unfolding platformIn
+platform-prefix n rest h = rw (getD-take n rest 0 0 (omega arith), getD-take n rest 1 0 (omega arith), getD-take n rest 2 0 (omega arith))
+
+duration-prefix : (n : ℕ) (rest : List ℕ) → 4 ≤ n → durationIn (take n rest) ≡ durationIn rest
+unfolding durationIn
+duration-prefix n rest h = rw (take-take 4 n rest)
+
+edge-prefix : (n : ℕ) (rest : List ℕ) → 4 ≤ n → edgeIn (take n rest) ≡ edgeIn rest
+unfolding edgeIn
+edge-prefix zero rest h = absurd (omega arith)
+edge-prefix (suc zero) rest h = absurd (omega arith)
+edge-prefix (suc (suc n)) [] h = refl
+edge-prefix (suc (suc n)) (x ∷ []) h = refl
+edge-prefix (suc (suc n)) (x ∷ y ∷ rest) h = rw (take-take 2 n rest (omega arith))
+
+short-prefix : (k n : ℕ) (rest : List ℕ) → k ≤ n → ltb (length (take n rest)) k ≡ ltb (length rest) k
+short-prefix k n rest h = ⊎-elim
+    (λ (l : length rest < k). lt-ltb (length (take n rest)) k (rw length-take (omega arith)) ∙ sym (lt-ltb _ _ l))
+    (λ (g : k ≤ length rest). le-ltb (length (take n rest)) k (rw length-take (omega arith)) ∙ sym (le-ltb _ _ g))
+    (lt-or-ge (length rest) k)
+
+empty-prefix : (n : ℕ) (rest : List ℕ) → 1 ≤ n → empty (take n rest) ≡ empty rest
+empty-prefix zero rest h = absurd (omega arith)
+empty-prefix (suc n) [] h = refl
+empty-prefix (suc n) (x ∷ rest) h = refl
+
+-- the same body: the tests and the job with this record more
+record Same (a b : List ℕ) (j : Job) (k : Kind) : Type 0 where
+  range : inRange k a ≡ inRange k b
+  joint : endsRight j k a ≡ endsRight j k b
+  order : inOrder j k a ≡ inOrder j k b
+  more : added j k a ≡ added j k b
+
+same : (n : ℕ) (rest : List ℕ) (j : Job) (k : Kind) → bodyLength k ≤ n → Same (take n rest) rest j k
+unfolding bodyLength inRange endsRight inOrder added
+same n rest j rack h = let e : platformIn (take n rest) ≡ platformIn rest = platform-prefix n rest h in record { range = rw e; joint = refl; order = refl; more = rw e }
+same n rest j step h = let e : durationIn (take n rest) ≡ durationIn rest = duration-prefix n rest h in record { range = rw e; joint = refl; order = refl; more = rw e }
+same n rest j link h = let e : edgeIn (take n rest) ≡ edgeIn rest = edge-prefix n rest h in record { range = rw e; joint = rw e; order = rw e; more = rw e }
+same n rest j end h = record { range = refl; joint = refl; order = refl; more = refl }
+
+-- the tests lead to the same answer, if what follows them is the same
+through : (s f l r e o : Bool) (x y : Answer) → (r ≡ true → x ≡ y) →
+    pick (not s) (refused 3) (pick f (refused 5) (pick l (refused 1) (pick (not r) (refused 4) (pick (not e) (refused 6) (pick (not o) (refused 7) x)))))
+    ≡ pick (not s) (refused 3) (pick f (refused 5) (pick l (refused 1) (pick (not r) (refused 4) (pick (not e) (refused 6) (pick (not o) (refused 7) y)))))
+through s f l true e o x y h = rw (h refl)
+through s f l false e o x y h = refl
+
+at-least : (b : Bool) → 2 ≤ pick b 6 2
+at-least true = omega arith
+at-least false = omega arith
+
+-- one record, where what is left is settled by as many bytes as it needs
+module _ (n : ℕ) (rest : List ℕ) (j : Job) (h : need j ≤ suc n)
+    (ih : (s : ℕ) (i : Job) → s + need i ≤ n → records (take n rest) s i ≡ records rest s i) where
+  body-inside : (k : Kind) → stands j k ≡ true → full j k ≡ false → bodyLength k ≤ n
+  unfolding need stands full bodyLength
+  body-inside rack s f = omega (arith, rw s at h)
+  body-inside step s f = omega (arith, leb-false 256 (length (j .tasks)) f)
+  body-inside link s f = omega (arith, leb-false 1024 (length (j .edges)) f)
+  body-inside end s f = omega arith
+
+  left-inside : (k : Kind) → stands j k ≡ true → full j k ≡ false → inRange k rest ≡ true → 1 ≤ bodyLength k → bodyLength k + need (added j k rest) ≤ n
+  unfolding need stands full bodyLength inRange added noRack
+  left-inside rack s f r b =
+      let p : 1 ≤ platformIn rest .processors = platform-facts (platformIn rest) r .0 in
+      rw (ne-eqb (platformIn rest .processors) 0 (λ z. omega arith)) (omega (arith, rw s at h))
+  left-inside step s f r b = rw (length-append (j .tasks) (durationIn rest ∷ [])) (omega (arith, leb-false 256 (length (j .tasks)) f))
+  left-inside link s f r b = rw (length-append (j .edges) (edgeIn rest ∷ [])) (omega (arith, leb-false 1024 (length (j .edges)) f))
+  left-inside end s f r b = absurd (omega arith)
+
+  more-same : (k : Kind) → stands j k ≡ true → full j k ≡ false → inRange k rest ≡ true → 1 ≤ bodyLength k →
+      records (take n rest) (bodyLength k) (added j k (take n rest)) ≡ records rest (bodyLength k) (added j k rest)
+  more-same k s f r b = rw (same n rest j k (body-inside k s f) .more) (ih (bodyLength k) (added j k rest) (left-inside k s f r b))
+
+  after-same : (k : Kind) → stands j k ≡ true → full j k ≡ false → inRange k rest ≡ true → after k (take n rest) j (records (take n rest)) ≡ after k rest j (records rest)
+  unfolding after bodyLength need
+  after-same rack s f r = more-same rack s f r (omega arith)
+  after-same step s f r = more-same step s f r (omega arith)
+  after-same link s f r = more-same link s f r (omega arith)
+  after-same end s f r = rw (empty-prefix n rest (omega (arith, at-least (noRack j))))
+
+  judged-same : (o : Option Kind) → judged o (take n rest) j (records (take n rest)) ≡ judged o rest j (records rest)
+  unfolding judged
+  judged-same none = refl
+  judged-same (some k) = go (stands j k) (full j k) refl refl
+    where
+      go : (s f : Bool) → stands j k ≡ s → full j k ≡ f → judged (some k) (take n rest) j (records (take n rest)) ≡ judged (some k) rest j (records rest)
+      go false f hs hf = misplaced k (take n rest) j (records (take n rest)) hs ∙ sym (misplaced k rest j (records rest) hs)
+      go true true hs hf = crowded k (take n rest) j (records (take n rest)) hs hf ∙ sym (crowded k rest j (records rest) hs hf)
+      go true false hs hf =
+          let b : bodyLength k ≤ n = body-inside k hs hf in
+          let e : Same (take n rest) rest j k = same n rest j k b in
+          rw (short-prefix (bodyLength k) n rest b, e .range, e .joint, e .order)
+          (through (stands j k) (full j k) (ltb (length rest) (bodyLength k)) (inRange k rest) (endsRight j k rest) (inOrder j k rest) _ _ (after-same k hs hf))
+
+-- so many bytes are enough
+enough : (xs : List ℕ) (s n : ℕ) (j : Job) → s + need j ≤ n → records (take n xs) s j ≡ records xs s j
+unfolding records need
+enough [] s n j h = rw (take-nil {A = ℕ} n)
+enough (b ∷ xs) s zero j h = absurd (omega (arith, at-least (noRack j)))
+enough (b ∷ xs) (suc s) (suc n) j h = enough xs s n j (omega arith)
+enough (b ∷ xs) zero (suc n) j h = judged-same n xs j (omega arith) (λ s i. enough xs s n i) (kindOf b)
+
+pub first-bytes : (file : List ℕ) → readJob (take 6406 file) ≡ readJob file
+unfolding readJob need blank noRack
+first-bytes file = enough file 0 6406 blank (omega arith)

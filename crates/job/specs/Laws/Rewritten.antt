@@ -1,0 +1,122 @@
+-- An accepted file is the file of its job: by induction on the chain of turns, the bytes read so far are the records of the job so far, since a number's bytes are those
+-- that it was read from.
+use mathlib.Core.Bool.{true, false, not}
+use mathlib.Core.Path.{_≡_, refl, ap, _∙_, sym}
+use mathlib.Core.List.{List, [], _∷_, _++_, append-assoc, append-nil, flatMap}
+use Prim.Native.Nat.{ℕ, zero, suc, _≤_}
+use native.Mathlib.Omega.{arith}
+use borrow.Author.Tests.{eqb-true, le-ltb}
+use lib.Dec.{eqb}
+use lib.ListN.{length, take, drop, take-append-drop}
+use lib.Seq.{length-take-le}
+use Rattle.job.specs.declared.Platform.{Platform}
+use Rattle.job.specs.declared.Written.the-variants.{Length}
+use Rattle.job.specs.Number.{number, bytes}
+use Rattle.job.specs.Job.{Edge, Job, blank}
+use Rattle.job.specs.Record.{Kind, rack, step, link, end, bodyLength, noRack, stands, inRange, added, platformIn, durationIn, edgeIn}
+use Rattle.job.specs.Read.{Answer, accepted, readJob}
+use Rattle.job.specs.Write.{rackBytes, stepBytes, linkBytes, fileOf, fileLength, roomFor, writeAnswer, writeOut}
+use Rattle.job.specs.Pass.{jobOf}
+use Rattle.job.specs.Laws.Number.{Bytes, none, more, bytes-number}
+use Rattle.job.specs.Laws.Tests.{never, both, platform-facts}
+use Rattle.job.specs.Laws.Written.{file-size}
+use Rattle.job.specs.Laws.Turn.{Fits, code, kind-code, Reads, no-more, halted, past, closed, reads}
+
+-- the job so far, and the bytes that it was read from
+data Reached : Job → List ℕ → Type 0 where
+  start : Reached blank []
+  under-way : (p : Platform) (ts : List ℕ) (es : List Edge) → 1 ≤ p .processors → Reached (jobOf p ts es) (rackBytes p ++ (flatMap stepBytes ts ++ flatMap linkBytes es))
+
+bytes-take : (n : ℕ) (bs : List ℕ) → Bytes bs → Bytes (take n bs)
+bytes-take zero bs h = none
+bytes-take (suc n) [] none = none
+bytes-take (suc n) (b ∷ bs) (more h r) = more h (bytes-take n bs r)
+
+bytes-drop : (n : ℕ) (bs : List ℕ) → Bytes bs → Bytes (drop n bs)
+bytes-drop zero bs h = h
+bytes-drop (suc n) [] none = none
+bytes-drop (suc n) (b ∷ bs) (more h r) = bytes-drop n bs r
+
+-- the bytes of a number are those that it was read from
+bytes-back : (k : ℕ) (bs : List ℕ) → Bytes bs → k ≤ length bs → bytes k (number (take k bs)) ≡ take k bs
+bytes-back k bs h l = rw (length-take-le k bs l) at (bytes-number (take k bs) (bytes-take k bs h))
+
+-- each record's bytes are those that its values were read from
+rack-bytes : (rest : List ℕ) → 3 ≤ length rest → rackBytes (platformIn rest) ≡ 1 ∷ take 3 rest
+unfolding rackBytes platformIn
+rack-bytes [] h = absurd (omega arith)
+rack-bytes (a ∷ []) h = absurd (omega arith)
+rack-bytes (a ∷ b ∷ []) h = absurd (omega arith)
+rack-bytes (a ∷ b ∷ c ∷ rest) h = refl
+
+step-bytes : (rest : List ℕ) → Bytes rest → 4 ≤ length rest → stepBytes (durationIn rest) ≡ 2 ∷ take 4 rest
+unfolding stepBytes durationIn
+step-bytes rest b h = rw (bytes-back 4 rest)
+
+link-bytes : (rest : List ℕ) → Bytes rest → 4 ≤ length rest → linkBytes (edgeIn rest) ≡ 3 ∷ take 4 rest
+unfolding linkBytes edgeIn
+link-bytes [] b h = absurd (omega arith)
+link-bytes (x ∷ []) b h = absurd (omega arith)
+link-bytes (x ∷ y ∷ rest) (more bx (more by b)) h = rw (bytes-back 2 rest b (omega arith))
+
+flatMap-more : {A : Type 0} (f : A → List ℕ) (xs : List A) (x : A) → flatMap f (xs ++ (x ∷ [])) ≡ flatMap f xs ++ f x
+unfolding flatMap
+flatMap-more f [] x = append-nil (f x)
+flatMap-more f (y ∷ xs) x = rw (flatMap-more f xs x) (sym (append-assoc (f y) (flatMap f xs) (f x)))
+
+-- one record more
+grown : (k : Kind) (rest : List ℕ) (j : Job) (bs : List ℕ) → 1 ≤ bodyLength k → Bytes rest → Fits rest j k → Reached j bs →
+    Reached (added j k rest) (bs ++ (code k ∷ take (bodyLength k) rest))
+unfolding bodyLength added stands noRack inRange blank flatMap
+grown rack rest j bs h b f start =
+    let p : Platform = platformIn rest in
+    rw (← rack-bytes rest (f .whole)) (rw (append-nil (rackBytes p)) at (under-way p [] [] (platform-facts p (f .ranges) .0)))
+grown rack rest j bs h b f (under-way p ts es n) = let z : p .processors ≡ 0 = eqb-true (p .processors) 0 (f .placed) in absurd (omega arith)
+grown step rest j bs h b f start = never (f .placed)
+grown step rest j bs h b f (under-way p ts [] n) =
+    let d : ℕ = durationIn rest in
+    rw (← step-bytes rest b (f .whole), append-nil (flatMap stepBytes ts), append-assoc (rackBytes p) (flatMap stepBytes ts) (stepBytes d), ← flatMap-more stepBytes ts d)
+    (rw (append-nil (flatMap stepBytes (ts ++ (d ∷ [])))) at (under-way p (ts ++ (d ∷ [])) [] n))
+grown step rest j bs h b f (under-way p ts (e ∷ es) n) = never (both (not (eqb (p .processors) 0)) false (f .placed) .1)
+grown link rest j bs h b f start = never (f .placed)
+grown link rest j bs h b f (under-way p ts es n) =
+    let e : Edge = edgeIn rest in
+    let steps : List ℕ = flatMap stepBytes ts in
+    let links : List ℕ = flatMap linkBytes es in
+    rw (← link-bytes rest b (f .whole), append-assoc (rackBytes p) (steps ++ links) (linkBytes e), append-assoc steps links (linkBytes e), ← flatMap-more linkBytes es e)
+    (under-way p ts (es ++ (e ∷ [])) n)
+grown end rest j bs h b f r = absurd (omega arith)
+
+-- the end record closes the file of the job so far
+closes : (j : Job) (bs : List ℕ) → stands j end ≡ true → Reached j bs → bs ++ (4 ∷ []) ≡ fileOf j
+unfolding stands blank fileOf
+closes j bs s start = never s
+closes j bs s (under-way p ts es n) = simp append-assoc
+
+-- the bytes read so far and those that are left are the file of the accepted job
+whole-file : {xs : List ℕ} {j : Job} {a : Answer} → Reads xs j a → (i : Job) → a ≡ accepted i → Bytes xs → (bs : List ℕ) → Reached j bs → bs ++ xs ≡ fileOf i
+whole-file no-more i e b bs r = let z : false ≡ true = cc in never z
+whole-file (halted c) i e b bs r = let z : false ≡ true = cc in never z
+whole-file (past {b = x} {rest = rest} {j = j} k q h f t) i e (more l b) bs r =
+    let n : ℕ = bodyLength k in
+    let w : bs ++ (code k ∷ take n rest) ++ drop n rest ≡ fileOf i = whole-file t i e (bytes-drop n rest b) (bs ++ (code k ∷ take n rest)) (grown k rest j bs h b f r) in
+    rw (kind-code x k q) (rw (append-assoc bs (code k ∷ take n rest) (drop n rest), take-append-drop n rest) at w)
+whole-file (closed {b = x} {rest = rest} {j = j} q f z) i e b bs r =
+    let y : j ≡ i = cc in
+    rw (kind-code x end q, z, ← y) (closes j bs (f .placed) r)
+
+-- an accepted file is the file of its job
+pub same-file : (file : List ℕ) (j : Job) → Bytes file → readJob file ≡ accepted j → fileOf j ≡ file
+unfolding readJob
+same-file file j b e = sym (whole-file (reads file 0 blank) j e b [] start)
+
+-- .. so the writer takes the job, where it has room, and writes the file
+pub written-back : (file : List ℕ) (j : Job) (out : List ℕ) → Bytes file → readJob file ≡ accepted j → length file ≤ length out →
+    length (j .tasks) ≤ 256 → length (j .edges) ≤ 1024 →
+    (writeAnswer (length (j .tasks)) (length (j .edges)) j out ≡ Length (length file))
+    × (writeOut (Length (length file)) j out ≡ file ++ drop (length file) out)
+unfolding writeAnswer roomFor writeOut
+written-back file j out b e h ht he =
+    let q : fileOf j ≡ file = same-file file j b e in
+    let s : fileLength (length (j .tasks)) (length (j .edges)) ≡ length file = sym (file-size j) ∙ ap length q in
+    (simp (le-ltb 256 (length (j .tasks)), le-ltb 1024 (length (j .edges)), q, e, s, le-ltb (length out) (length file)), rw q)

@@ -1,0 +1,96 @@
+-- The judgement of one record as a view (`turn`: it halts with a cause, goes on past a body, or is the end), and of a
+-- whole file as the chain of these turns (`reads`). Theorems on the reader are inductions on `Reads`, and open no test.
+use mathlib.Core.Bool.{Bool, true, false, not}
+use mathlib.Core.Path.{_≡_, refl, ap, _∙_}
+use mathlib.Core.List.{List, [], _∷_}
+use mathlib.Core.Option.{Option, none, some}
+use Prim.Native.Nat.{ℕ, zero, suc, _≤_}
+use native.Mathlib.Omega.{arith}
+use borrow.Author.Tests.{ltb-true, ltb-false, eqb-true}
+use lib.Dec.{ltb, eqb}
+use lib.ListN.{length, drop}
+use Rattle.job.specs.Number.{pick}
+use Rattle.job.specs.Job.{Job}
+use Rattle.job.specs.Record.{Kind, rack, step, link, end, kindOf, bodyLength, stands, full, inRange, endsRight, inOrder, added}
+use Rattle.job.specs.Read.{Answer, accepted, refused, after, judged, records}
+use Rattle.job.specs.Cause.{Cause, cut, unknown, misplaced, out-of-range, too-many, bad-ends, not-above, bytes-after}
+
+-- a record of kind k without trouble, with `rest` after its kind byte, after the job so far
+pub record Fits (rest : List ℕ) (j : Job) (k : Kind) : Type 0 where
+  pub placed : stands j k ≡ true
+  pub room : full j k ≡ false
+  pub whole : bodyLength k ≤ length rest
+  pub ranges : inRange k rest ≡ true
+  pub ends : endsRight j k rest ≡ true
+  pub order : inOrder j k rest ≡ true
+
+-- the answer to a record: refused with its cause, left to what follows the body, or the job accepted at the end record
+pub data Turn (rest : List ℕ) (j : Job) (more : ℕ → Job → Answer) : Option Kind → Answer → Type 0 where
+  halts : {o : Option Kind} {n : ℕ} → Cause rest j o n → Turn rest j more o (refused n)
+  goes-on : (k : Kind) → 1 ≤ bodyLength k → Fits rest j k → Turn rest j more (some k) (more (bodyLength k) (added j k rest))
+  is-end : Fits rest j end → rest ≡ [] → Turn rest j more (some end) (accepted j)
+
+fitted : (k : Kind) (rest : List ℕ) (j : Job) (more : ℕ → Job → Answer) → Fits rest j k → Turn rest j more (some k) (after k rest j more)
+unfolding after bodyLength
+fitted rack rest j more f = goes-on rack (omega arith) f
+fitted step rest j more f = goes-on step (omega arith) f
+fitted link rest j more f = goes-on link (omega arith) f
+fitted end [] j more f = is-end f refl
+fitted end (b ∷ rest) j more f = halts (bytes-after refl)
+
+pub turn : (o : Option Kind) (rest : List ℕ) (j : Job) (more : ℕ → Job → Answer) → Turn rest j more o (judged o rest j more)
+unfolding judged
+turn none rest j more = halts unknown
+turn (some k) rest j more = go (stands j k) (full j k) (ltb (length rest) (bodyLength k)) (inRange k rest) (endsRight j k rest) (inOrder j k rest) refl refl refl refl refl refl
+  where
+    go : (s f l r e o : Bool) → stands j k ≡ s → full j k ≡ f → ltb (length rest) (bodyLength k) ≡ l → inRange k rest ≡ r → endsRight j k rest ≡ e → inOrder j k rest ≡ o →
+        Turn rest j more (some k) (pick (not s) (refused 3) (pick f (refused 5) (pick l (refused 1)
+        (pick (not r) (refused 4) (pick (not e) (refused 6) (pick (not o) (refused 7) (after k rest j more)))))))
+    go false f l r e o hs hf hl hr he ho = halts (misplaced hs)
+    go true true l r e o hs hf hl hr he ho = halts (too-many hf)
+    go true false true r e o hs hf hl hr he ho = halts (cut (ltb-true _ _ hl))
+    go true false false false e o hs hf hl hr he ho = halts (out-of-range hr)
+    go true false false true false o hs hf hl hr he ho = halts (bad-ends he)
+    go true false false true true false hs hf hl hr he ho = halts (not-above ho)
+    go true false false true true true hs hf hl hr he ho =
+        fitted k rest j more (record { placed = hs; room = hf; whole = ltb-false _ _ hl; ranges = hr; ends = he; order = ho })
+
+-- the byte of a kind
+abbrev pub code : Kind → ℕ
+code rack = 1
+code step = 2
+code link = 3
+code end = 4
+
+pub kind-code : (b : ℕ) (k : Kind) → kindOf b ≡ some k → b ≡ code k
+unfolding kindOf
+kind-code b k h = go (eqb b 1) (eqb b 2) (eqb b 3) (eqb b 4) refl refl refl refl h
+  where
+    go : (p q r s : Bool) → eqb b 1 ≡ p → eqb b 2 ≡ q → eqb b 3 ≡ r → eqb b 4 ≡ s →
+        pick p (some rack) (pick q (some step) (pick r (some link) (pick s (some end) none))) ≡ some k → b ≡ code k
+    go true q r s hp hq hr hs h = let z : rack ≡ k = cc in eqb-true b 1 hp ∙ ap code z
+    go false true r s hp hq hr hs h = let z : step ≡ k = cc in eqb-true b 2 hq ∙ ap code z
+    go false false true s hp hq hr hs h = let z : link ≡ k = cc in eqb-true b 3 hr ∙ ap code z
+    go false false false true hp hq hr hs h = let z : end ≡ k = cc in eqb-true b 4 hs ∙ ap code z
+    go false false false false hp hq hr hs h = cc
+
+-- the answer to the bytes that are left, after the job so far
+pub data Reads : List ℕ → Job → Answer → Type 0 where
+  no-more : {j : Job} → Reads [] j (refused 1)
+  halted : {b : ℕ} {rest : List ℕ} {j : Job} {n : ℕ} → Cause rest j (kindOf b) n → Reads (b ∷ rest) j (refused n)
+  past : {b : ℕ} {rest : List ℕ} {j : Job} {a : Answer} (k : Kind) → kindOf b ≡ some k → 1 ≤ bodyLength k → Fits rest j k →
+      Reads (drop (bodyLength k) rest) (added j k rest) a → Reads (b ∷ rest) j a
+  closed : {b : ℕ} {rest : List ℕ} {j : Job} → kindOf b ≡ some end → Fits rest j end → rest ≡ [] → Reads (b ∷ rest) j (accepted j)
+
+pub reads : (xs : List ℕ) (skip : ℕ) (j : Job) → Reads (drop skip xs) j (records xs skip j)
+unfolding records
+reads [] zero j = no-more
+reads [] (suc skip) j = no-more
+reads (b ∷ rest) (suc skip) j = reads rest skip j
+reads (b ∷ rest) zero j = go (kindOf b) (judged (kindOf b) rest j (records rest)) refl (turn (kindOf b) rest j (records rest)) (reads rest)
+  where
+    go : (o : Option Kind) (a : Answer) → kindOf b ≡ o → Turn rest j (records rest) o a →
+        ((skip : ℕ) (i : Job) → Reads (drop skip rest) i (records rest skip i)) → Reads (b ∷ rest) j a
+    go o a e (halts c) more = halted (rw (← e) at c)
+    go o a e (goes-on k h f) more = past k e h f (more (bodyLength k) (added j k rest))
+    go o a e (is-end f h) more = closed e f h

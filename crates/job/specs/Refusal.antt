@@ -1,0 +1,30 @@
+-- Each refusal number comes only with its condition.
+use mathlib.Core.Logic.{_⊎_, inl, inr, ⊎-elim}
+use mathlib.Core.Path.{_≡_}
+use mathlib.Core.List.{List}
+use Prim.Native.Nat.{ℕ, suc, _≤_, _<_}
+use native.Mathlib.Omega.{arith}
+use lib.ListN.{length, getD, drop}
+use Rattle.job.specs.declared.Written.the-variants.{Refused}
+use Rattle.job.specs.Job.{Job}
+use Rattle.job.specs.Record.{kindOf}
+use Rattle.job.specs.Read.{refused, records, readJob}
+use Rattle.job.specs.Cause.{Cause}
+use Rattle.job.specs.Write.{writeAnswer, fileLength, fileOf}
+use Rattle.job.specs.Laws.Halt.{reached-answer, halts-at, cause-number, count-refused, room-refused}
+
+-- the reader refuses at a place that it has come to with the job so far: there the file ends (1), or the record has the number's cause
+pub read-refused : (file : List ℕ) (n : ℕ) → readJob file ≡ refused n →
+    (at : ℕ) × (j : Job) × (readJob file ≡ records (drop at file) 0 j)
+    × (((length file ≤ at) × (n ≡ 1)) ⊎ ((at < length file) × Cause (drop (suc at) file) j (kindOf (getD file at 0)) n))
+read-refused file n e = let h = halts-at file n e in (h .0, h .1, reached-answer file (h .2), h .3)
+
+-- the reader's numbers are 1 to 8
+pub read-numbers : (file : List ℕ) (n : ℕ) → readJob file ≡ refused n → (1 ≤ n) × (n ≤ 8)
+read-numbers file n e = ⊎-elim (λ h. omega arith) (λ h. cause-number (h .1)) (read-refused file n e .3)
+
+-- the writer refuses with 5 for a count too large, with the reader's number for the job's file, or with 9 for too little room
+pub write-refused : (m l n : ℕ) (j : Job) (out : List ℕ) → writeAnswer m l j out ≡ Refused n →
+    ((n ≡ 5) × ((256 < m) ⊎ (1024 < l))) ⊎ ((readJob (fileOf j) ≡ refused n) ⊎ ((n ≡ 9) × (length out < fileLength m l)))
+unfolding writeAnswer
+write-refused m l n j out e = ⊎-elim inl (λ h. inr (room-refused (fileLength m l) n out (readJob (fileOf j)) h)) (count-refused m l n _ e)
