@@ -78,7 +78,7 @@ fn judge_edge(
     from: u8,
     to: u8,
     count: u16,
-    before: Option<(u8, u8)>,
+    before: Option<u16>,
     tasks: usize,
 ) -> Result<(), u8> {
     if !(1..=1_000).contains(&count) {
@@ -87,7 +87,7 @@ fn judge_edge(
     if from >= to || usize::from(to) >= tasks {
         return Err(6);
     }
-    if before.is_some_and(|last| (from, to) <= last) {
+    if before.is_some_and(|last| u16::from_be_bytes([from, to]) <= last) {
         return Err(7);
     }
     Ok(())
@@ -131,7 +131,7 @@ fn fill(reading: &mut Reading, file: &[u8]) -> Result<(usize, usize), u8> {
         reading.from[edges] = from;
         reading.to[edges] = to;
         reading.counts[edges] = count;
-        before = Some((from, to));
+        before = Some(u16::from_be_bytes([from, to]));
         edges += 1;
         rest = next;
     }
@@ -170,7 +170,7 @@ pub fn write(
     let mut before = None;
     for ((&from, &to), &count) in from.iter().zip(to).zip(counts) {
         judge_edge(from, to, count, before, tasks)?;
-        before = Some((from, to));
+        before = Some(u16::from_be_bytes([from, to]));
     }
 
     let length = 5 + 5 * (tasks + edges);
