@@ -74,13 +74,7 @@ fn judge_duration(duration: u32) -> Result<(), u8> {
     Ok(())
 }
 
-fn judge_edge(
-    from: u8,
-    to: u8,
-    count: u16,
-    before: Option<u16>,
-    tasks: usize,
-) -> Result<(), u8> {
+fn judge_edge(from: u8, to: u8, count: u16, before: Option<u16>, tasks: usize) -> Result<(), u8> {
     if !(1..=1_000).contains(&count) {
         return Err(4);
     }

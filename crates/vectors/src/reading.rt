@@ -95,13 +95,13 @@ fn show_spare(are_tasks_clear: bool, are_edges_clear: bool) {
     show::text(b" spare set");
 }
 
-fn show_job(
+fn show_job<'a>(
     tasks: usize,
     edges: usize,
-    durations: &[u32; 256],
-    from: &[u8; 1024],
-    to: &[u8; 1024],
-    counts: &[u16; 1024],
+    durations: &'a [u32; 256],
+    from: &'a [u8; 1024],
+    to: &'a [u8; 1024],
+    counts: &'a [u16; 1024],
 ) {
     show::text(b" tasks");
     show_tasks(durations, tasks);
@@ -153,28 +153,24 @@ fn show_again<'a>(
 pub fn case(file: &[u8]) {
     let r = job::read(file);
     let verdict = r.verdict;
-    let durations = r.durations;
-    let from = r.from;
-    let to = r.to;
-    let counts = r.counts;
     match verdict {
         Verdict::Counts { tasks, edges } => {
             show_counts(tasks, edges, r.platform);
-            show_job(tasks, edges, &durations, &from, &to, &counts);
+            show_job(tasks, edges, &r.durations, &r.from, &r.to, &r.counts);
             show_again(
                 file,
                 r.platform,
                 tasks,
                 edges,
-                &durations,
-                &from,
-                &to,
-                &counts,
+                &r.durations,
+                &r.from,
+                &r.to,
+                &r.counts,
             );
         }
         Verdict::Refused(number) => {
             show_refusal(number, r.platform);
-            show_job(0, 0, &durations, &from, &to, &counts);
+            show_job(0, 0, &r.durations, &r.from, &r.to, &r.counts);
             show::text(b"\n");
         }
     }
