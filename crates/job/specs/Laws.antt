@@ -3,7 +3,8 @@ pub mod Number
 pub mod Judged
 pub mod Kinds
 pub mod Spare
-pub mod Edges
+pub mod Values
+pub mod Stored
 pub mod Tests
 pub mod Turn
 pub mod Lists
@@ -11,6 +12,5 @@ pub mod Halt
 pub mod Kept
 pub mod Encoded
 pub mod Written
-pub mod Held
 pub mod Rewritten
 pub mod Prefix

@@ -6,6 +6,8 @@ use mathlib.Core.List.{List, [], _∷_}
 use Prim.Native.Nat.{ℕ, _+_, _*_, _-_, _≤_, _<_}
 use lib.Dec.{leb, ltb, eqb}
 use lib.ListN.{length, getD, take, drop, replicate}
+use mir.Syntax.{w8, w16, w32}
+use mir.Val.{Fits}
 use Rattle.job.specs.declared.Platform.{Platform}
 use Rattle.job.specs.declared.parse.Pass.{Pass}
 use Rattle.job.specs.declared.parse.Pass.the-variants.{Count, Trouble}
@@ -13,7 +15,7 @@ use Rattle.job.specs.Number.{pick}
 use Rattle.job.specs.Job.{Edge, Job}
 use Rattle.job.specs.Record.{platformInRange, durationInRange, countInRange, joins}
 use Rattle.job.specs.Read.{Answer, refused, records, readJob}
-use Rattle.job.specs.Write.{edgesOf}
+use Rattle.job.specs.Write.{values, edgeHeld}
 
 abbrev pub jobOf : Platform → List ℕ → List Edge → Job
 jobOf p ts es = record { platform = p; tasks = ts; edges = es }
@@ -55,6 +57,17 @@ unfoldable pub linksTrouble : ℕ → ℕ → List Edge → ℕ
 linksTrouble m least [] = 0
 linksTrouble m least (e ∷ es) = firstOf (linkTrouble m least e) (linksTrouble m (key e + 1) es)
 
+-- the first m durations of an array: their first trouble; each duration has 32 bits
+pub record StepsJudged (durations : List ℕ) (m trouble : ℕ) : Type 0 where
+  pub first : trouble ≡ stepsTrouble (values (λ t. getD durations t 0) 0 m)
+  pub fits : (t : ℕ) → Fits w32 (getD durations t 0)
+
+-- the first l edges of three arrays, among m tasks: their first trouble; ends have 8 bits and message counts 16
+pub record LinksJudged (from to counts : List ℕ) (m l trouble : ℕ) : Type 0 where
+  pub first : trouble ≡ linksTrouble m 0 (values (edgeHeld from to counts) 0 l)
+  pub to-fits : (i : ℕ) → Fits w8 (getD to i 0)
+  pub count-fits : (i : ℕ) → Fits w16 (getD counts i 0)
+
 -- the rack's values at their places in a file
 abbrev pub platformAt : List ℕ → Platform
 platformAt file = record { processors = getD file 1 0; topology = getD file 2 0; unit = getD file 3 0 }
@@ -91,6 +104,6 @@ LinksPassed file m from to counts (Count l) =
     × (length from ≡ 1024) × (length to ≡ 1024) × (length counts ≡ 1024)
     × (drop l from ≡ replicate (1024 - l) 0) × (drop l to ≡ replicate (1024 - l) 0) × (drop l counts ≡ replicate (1024 - l) 0)
     × ((p : Platform) (ts : List ℕ) → length ts ≡ m →
-      records (drop (4 + 5 * m) file) 0 (jobOf p ts []) ≡ records (drop (4 + 5 * m + 5 * l) file) 0 (jobOf p ts (take l (edgesOf from to counts))))
+      records (drop (4 + 5 * m) file) 0 (jobOf p ts []) ≡ records (drop (4 + 5 * m + 5 * l) file) 0 (jobOf p ts (values (edgeHeld from to counts) 0 l)))
 LinksPassed file m from to counts (Trouble k) =
     (p : Platform) (ts : List ℕ) → length ts ≡ m → records (drop (4 + 5 * m) file) 0 (jobOf p ts []) ≡ refused k

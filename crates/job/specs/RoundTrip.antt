@@ -4,17 +4,17 @@ use mathlib.Core.List.{List, _++_}
 use Prim.Native.Nat.{ℕ, _≤_, _<_, _^_}
 use native.Mathlib.Omega.{arith}
 use lib.ListN.{length, getD, take, drop}
-use lib.Seq.{length-take-le, take-append-seam}
 use Rattle.job.specs.declared.Platform.{Platform}
 use Rattle.job.specs.declared.Written.the-variants.{Length}
 use Rattle.job.specs.Job.{Job}
 use Rattle.job.specs.Read.{accepted, readJob, padded, readingOf}
-use Rattle.job.specs.Write.{fileOf, fileLength, edgesOf, heldJob, writeAnswer, writeOut}
+use Rattle.job.specs.Write.{fileOf, fileLength, edgeHeld, heldJob, writeAnswer, writeOut}
 use Rattle.job.specs.Accepted.{Accepted, accepted-job}
 use Rattle.job.specs.Pass.{edge}
 use Rattle.job.specs.Laws.Number.{Bytes}
 use Rattle.job.specs.Laws.Written.{file-size, read-back}
-use Rattle.job.specs.Laws.Held.{edges-length, counts-in, all-taken, edges-back}
+use Rattle.job.specs.Laws.Lists.{padded-at}
+use Rattle.job.specs.Laws.Values.{length-values, each-value, values-back, edges-held}
 use Rattle.job.specs.Laws.Rewritten.{written-back}
 use Rattle.job.specs.Laws.Prefix.{first-bytes}
 
@@ -22,34 +22,29 @@ use Rattle.job.specs.Laws.Prefix.{first-bytes}
 pub file-length : (j : Job) → length (fileOf j) ≡ fileLength (length (j .tasks)) (length (j .edges))
 file-length j = file-size j
 
--- arrays of a job held as numbers: 256 durations of 32 bits, three times 1,024 parts of edges, counts of 16 bits
-pub record Held (durations from to counts : List ℕ) : Type 0 where
-  pub durations-length : length durations ≡ 256
-  pub from-length : length from ≡ 1024
-  pub to-length : length to ≡ 1024
-  pub counts-length : length counts ≡ 1024
+-- arrays hold what their types can: durations of 32 bits, message counts of 16 bits
+pub record Held (durations counts : List ℕ) : Type 0 where
   pub duration-fits : (t : ℕ) → getD durations t 0 < 2 ^ 32
   pub count-fits : (i : ℕ) → getD counts i 0 < 2 ^ 16
 
 -- 00: "A job that the writer takes, written out and read, is the same job"
-module _ (p : Platform) (m l : ℕ) (durations from to counts out : List ℕ) (h : Held durations from to counts) where
+module _ (p : Platform) (m l : ℕ) (durations from to counts out : List ℕ) (h : Held durations counts) where
   abbrev held : Job
   held = heldJob p m l durations from to counts
 
   pub written-read : (n : ℕ) → writeAnswer m l held out ≡ Length n → readJob (take n (writeOut (Length n) held out)) ≡ accepted held
-  unfolding heldJob
+  unfolding heldJob edgeHeld
   written-read n e =
-      let s : length (edgesOf from to counts) ≡ length from = edges-length from to counts (omega arith) (omega arith) in
-      read-back held out m l n (all-taken (λ d. d < 2 ^ 32) 0 m durations (omega arith) (h .duration-fits))
-      (all-taken (λ e. e .count < 2 ^ 16) (edge 0 0 0) l (edgesOf from to counts) (omega arith) (counts-in from to counts (2 ^ 16) (omega arith) (h .count-fits)))
-      (λ few. length-take-le m durations (omega arith)) (λ few. length-take-le l (edgesOf from to counts) (omega arith)) e
+      read-back held out m l n (each-value (λ t. getD durations t 0) (λ d. d < 2 ^ 32) 0 (omega arith) (h .duration-fits) 0 m)
+      (each-value (edgeHeld from to counts) (λ e. e .count < 2 ^ 16) (edge 0 0 0) (omega arith) (h .count-fits) 0 l)
+      (λ few. length-values (λ t. getD durations t 0) 0 m) (λ few. length-values (edgeHeld from to counts) 0 l) e
 
--- 00: "an accepted file written out is the same bytes": the job that the reader gives is the one it holds as numbers, ..
-pub read-held : (file : List ℕ) (j : Job) → readJob file ≡ accepted j →
+-- 00: "an accepted file written out is the same bytes": the arrays that the reader gives hold the job, ..
+pub read-held : (j : Job) →
     heldJob (j .platform) (length (j .tasks)) (length (j .edges)) (readingOf (accepted j) .durations)
     (readingOf (accepted j) .from) (readingOf (accepted j) .to) (readingOf (accepted j) .counts) ≡ j
-unfolding heldJob readingOf padded
-read-held file j e = rw (take-append-seam, edges-back)
+unfolding heldJob readingOf
+read-held j = rw (values-back 0 (j .tasks) (λ t. getD (padded 256 (j .tasks)) t 0) (padded-at 256 (j .tasks)), edges-held (j .edges))
 
 -- .. the writer takes it where there is room, and what it writes is the file
 pub read-written : (file : List ℕ) (j : Job) (out : List ℕ) → Bytes file → readJob file ≡ accepted j → length file ≤ length out →

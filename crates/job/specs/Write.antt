@@ -2,9 +2,9 @@
 use mathlib.Core.Bool.{Bool, true, false, _||_}
 use mathlib.Core.Path.{_≡_}
 use mathlib.Core.List.{List, [], _∷_, _++_, flatMap}
-use Prim.Native.Nat.{ℕ, _+_, _*_}
+use Prim.Native.Nat.{ℕ, zero, suc, _+_, _*_}
 use lib.Dec.{ltb}
-use lib.ListN.{length, take, drop}
+use lib.ListN.{length, getD, drop}
 use Rattle.job.specs.declared.Platform.{Platform}
 use Rattle.job.specs.declared.Written.{Written}
 use Rattle.job.specs.declared.Written.the-variants.{Length, Refused}
@@ -32,17 +32,19 @@ fileOf j = rackBytes (j .platform) ++ (flatMap stepBytes (j .tasks) ++ (flatMap 
 unfoldable pub fileLength : ℕ → ℕ → ℕ
 fileLength m l = 5 + 5 * (m + l)
 
--- the edges whose parts stand at the same places of three arrays
-unfoldable pub edgesOf : List ℕ → List ℕ → List ℕ → List Edge
-edgesOf [] ts cs = []
-edgesOf (f ∷ fs) [] cs = []
-edgesOf (f ∷ fs) (t ∷ ts) [] = []
-edgesOf (f ∷ fs) (t ∷ ts) (c ∷ cs) = record { from = f; to = t; count = c } ∷ edgesOf fs ts cs
+-- f i, f (i + 1), ..: k values
+unfoldable pub values : {A : Type 0} → (ℕ → A) → ℕ → ℕ → List A
+values f i zero = []
+values f i (suc k) = f i ∷ values f (suc i) k
+
+-- the edge whose parts stand at place i of three arrays
+unfoldable pub edgeHeld : List ℕ → List ℕ → List ℕ → ℕ → Edge
+edgeHeld from to counts i = record { from = getD from i 0; to = getD to i 0; count = getD counts i 0 }
 
 -- a job held as numbers: the first m durations and the first l edges; spare places are not read
 unfoldable pub heldJob : Platform → ℕ → ℕ → List ℕ → List ℕ → List ℕ → List ℕ → Job
 heldJob p m l durations from to counts =
-    record { platform = p; tasks = take m durations; edges = take l (edgesOf from to counts) }
+    record { platform = p; tasks = values (λ t. getD durations t 0) 0 m; edges = values (edgeHeld from to counts) 0 l }
 
 -- 9 if the output is too short
 unfoldable pub roomFor : ℕ → List ℕ → Answer → Written

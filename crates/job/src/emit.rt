@@ -5,15 +5,15 @@ use crate::Platform;
 ghost use mathlib.Core.Path.{_≡_};
 ghost use Prim.Native.Nat.{_+_, _*_, _≤_, _<_};
 ghost use mathlib.Core.List.{flatMap};
-ghost use lib.ListN.{length, take};
+ghost use lib.ListN.{length, getD};
 ghost use lib.Seq.{sets};
-ghost use Rattle.job.specs.Write.{edgesOf, rackBytes, stepBytes, linkBytes};
-ghost use Rattle.job.specs.Pass.{edge, stepsTrouble, linksTrouble};
+ghost use Rattle.job.specs.Write.{values, edgeHeld, rackBytes, stepBytes, linkBytes};
+ghost use Rattle.job.specs.Pass.{edge, StepsJudged, LinksJudged};
 
 // The first trouble among the first `tasks` durations, or 0 for none.
-pub fn steps_trouble(durations: &[u32; 256], tasks: usize) -> u8
-    requires { ⌜ tasks ≤ 256 ⌝ }
-    ensures { λ r. ⌜ r ≡ stepsTrouble (take tasks (now (durations .entry))) ⌝ }
+pub fn steps_trouble(durations: &[u32], tasks: usize) -> u8
+    requires { ⌜ tasks ≤ length (now durations) ⌝ }
+    ensures { λ r. ⌜ StepsJudged (now (durations .entry)) tasks r ⌝ }
 {
     let mut i: usize = 0;
     while i < tasks {
@@ -27,9 +27,9 @@ pub fn steps_trouble(durations: &[u32; 256], tasks: usize) -> u8
 }
 
 // The first trouble among the first `edges` edges, or 0 for none.
-pub fn links_trouble(tasks: usize, edges: usize, from: &[u8; 1024], to: &[u8; 1024], counts: &[u16; 1024]) -> u8
-    requires { ⌜ edges ≤ 1024 ⌝ }
-    ensures { λ r. ⌜ r ≡ linksTrouble tasks 0 (take edges (edgesOf (now (from .entry)) (now (to .entry)) (now (counts .entry)))) ⌝ }
+pub fn links_trouble(tasks: usize, edges: usize, from: &[u8], to: &[u8], counts: &[u16]) -> u8
+    requires { ⌜ (edges ≤ length (now from)) × (edges ≤ length (now to)) × (edges ≤ length (now counts)) ⌝ }
+    ensures { λ r. ⌜ LinksJudged (now (from .entry)) (now (to .entry)) (now (counts .entry)) tasks edges r ⌝ }
 {
     let mut i: usize = 0;
     let mut least: u32 = 0;
@@ -88,7 +88,7 @@ fn put_link(from: u8, to: u8, count: u16, out: &mut [u8], at: usize)
 // Writes the first `tasks` steps from byte 4 on.
 pub fn put_steps(durations: &[u32; 256], tasks: usize, out: &mut [u8])
     requires { ⌜ (tasks ≤ 256) × (4 + 5 * tasks ≤ length (now out)) ⌝ }
-    ensures { λ _. ⌜ now (out .exit) ≡ sets (now (out .entry)) 4 (flatMap stepBytes (take tasks (now (durations .entry)))) ⌝ }
+    ensures { λ _. ⌜ now (out .exit) ≡ sets (now (out .entry)) 4 (flatMap stepBytes (values (λ t. getD (now (durations .entry)) t 0) 0 tasks)) ⌝ }
 {
     let mut i: usize = 0;
     while i < tasks {
@@ -100,7 +100,7 @@ pub fn put_steps(durations: &[u32; 256], tasks: usize, out: &mut [u8])
 // Writes the first `edges` links from byte `at` on.
 pub fn put_links(edges: usize, from: &[u8; 1024], to: &[u8; 1024], counts: &[u16; 1024], out: &mut [u8], at: usize)
     requires { ⌜ (edges ≤ 1024) × (at + 5 * edges ≤ length (now out)) ⌝ }
-    ensures { λ _. ⌜ now (out .exit) ≡ sets (now (out .entry)) at (flatMap linkBytes (take edges (edgesOf (now (from .entry)) (now (to .entry)) (now (counts .entry))))) ⌝ }
+    ensures { λ _. ⌜ now (out .exit) ≡ sets (now (out .entry)) at (flatMap linkBytes (values (edgeHeld (now (from .entry)) (now (to .entry)) (now (counts .entry))) 0 edges)) ⌝ }
 {
     let mut i: usize = 0;
     while i < edges {

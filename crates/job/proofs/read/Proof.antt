@@ -1,7 +1,7 @@
 -- `read`: each return is the answer after the passes so far; the last record is judged here.
 use mathlib.Core.Bool.{true, false}
 use mathlib.Core.Path.{_≡_, refl, ap, sym, _∙_}
-use mathlib.Core.List.{List, [], _∷_, _++_}
+use mathlib.Core.List.{List, [], _∷_, _++_, map}
 use Prim.Native.Nat.{ℕ, zero, suc, _+_, _*_, _-_, _≤_, _<_}
 use native.Mathlib.Numerals.{add-one}
 use native.Mathlib.Omega.{arith}
@@ -15,16 +15,16 @@ use Rattle.job.specs.declared.Verdict.the-variants.{Counts}
 use Rattle.job.specs.declared.parse.Pass.{Pass}
 use Rattle.job.specs.declared.parse.Pass.the-variants.{Count, Trouble}
 use Rattle.job.specs.Number.{pick}
-use Rattle.job.specs.Job.{Job}
+use Rattle.job.specs.Job.{Edge, Job}
 use Rattle.job.specs.Record.{Kind, rack, step, link, end, kindOf, bodyLength, empty, noRack, stands, full, inRange, endsRight, inOrder}
 use Rattle.job.specs.Read.{accepted, refused, after, judged, records, readJob, readingOf}
-use Rattle.job.specs.Write.{edgesOf}
+use Rattle.job.specs.Write.{values, edgeHeld}
 use Rattle.job.specs.Pass.{StepsPassed, LinksPassed, jobOf, platformAt, misplacedNumber, troubleOf}
 use Rattle.job.specs.Laws.Judged.{at-record}
 use Rattle.job.specs.Laws.Kinds.{kindByte, misplaced-at}
 use Rattle.job.specs.Laws.Lists.{empty-is, empty-not}
 use Rattle.job.specs.Laws.Spare.{filled}
-use Rattle.job.specs.Laws.Edges.{Aligned, aligned, length-edges, from-edges, to-edges, count-edges}
+use Rattle.job.specs.Laws.Values.{length-values, map-values, values-same, values-take}
 use borrow.Author.Needs.{needs}
 use Rattle.job.proofs.read.Statement.{statement}
 use Rattle.job.proofs.read.Tie as tie
@@ -76,13 +76,16 @@ module _ (file : List ℕ) (some : 1 ≤ getD file 1 0) (begins : readJob file �
 
     module _ (from to counts : List ℕ) (l : ℕ) (x : LinksPassed file m from to counts (Count l)) where
       job : Job
-      job = jobOf (platformAt file) (take m durations) (take l (edgesOf from to counts))
+      job = jobOf (platformAt file) (take m durations) (values (edgeHeld from to counts) 0 l)
 
-      all-aligned : Aligned from to counts
-      all-aligned = aligned from to counts 1024 (x .3) (x .4) (x .5)
+      linked : length (values (edgeHeld from to counts) 0 l) ≡ l
+      linked = length-values (edgeHeld from to counts) 0 l
 
-      linked : length (take l (edgesOf from to counts)) ≡ l
-      linked = length-take-le l (edgesOf from to counts) (omega (arith, x .0, x .3, length-edges all-aligned))
+      column : (part : Edge → ℕ) (a : List ℕ) → length a ≡ 1024 → ((i : ℕ) → part (edgeHeld from to counts i) ≡ getD a i 0) →
+          map part (values (edgeHeld from to counts) 0 l) ≡ take l a
+      column part a long is =
+          map-values part (edgeHeld from to counts) 0 l ∙ values-same (λ i. part (edgeHeld from to counts i)) (λ i. getD a i 0) 0 l (λ n b d. is n)
+          ∙ values-take a l (omega (arith, x .0))
 
       last : readJob file ≡ judged (kindOf (getD file (4 + 5 * m + 5 * l) 0)) (drop (suc (4 + 5 * m + 5 * l)) file) job (records (drop (suc (4 + 5 * m + 5 * l)) file))
       unfolding job
@@ -96,7 +99,7 @@ module _ (file : List ℕ) (some : 1 ≤ getD file 1 0) (begins : readJob file �
       unfolding stands noRack job
       closing b i h rack e = racked
       closing b i h step e =
-          simp (racked, empty-not (take l (edgesOf from to counts)) (λ z.
+          simp (racked, empty-not (values (edgeHeld from to counts) 0 l) (λ z.
             let z′ : 4 + 5 * m + 5 * l ≡ 4 + 5 * m = omega (arith, linked) in
             s .2 (rw z′ at (sym i ∙ e))))
       closing b i h link e = absurd (x .2 (sym i ∙ e))
@@ -122,11 +125,11 @@ module _ (file : List ℕ) (some : 1 ≤ getD file 1 0) (begins : readJob file �
         to = to;
         counts = counts;
       } ≡ readingOf (readJob file)
-      unfolding readingOf job
+      unfolding readingOf job edgeHeld
       done e h =
           let z : length (drop (suc (4 + 5 * m + 5 * l)) file) ≡ 0 = simp length-drop (omega arith) in
           let a : readJob file ≡ accepted job = ends e ∙ simp (empty-is (drop (suc (4 + 5 * m + 5 * l)) file) z) in
-          rw (a, taken, linked, from-edges all-aligned l, to-edges all-aligned l, count-edges all-aligned l,
+          rw (a, taken, linked, column (λ e. e .from) from (x .3) (λ i. refl), column (λ e. e .to) to (x .4) (λ i. refl), column (λ e. e .count) counts (x .5) (λ i. refl),
             ← filled 256 m durations (s .3) (s .0) (s .4), ← filled 1024 l from (x .3) (x .0) (x .6),
             ← filled 1024 l to (x .4) (x .0) (x .7), ← filled 1024 l counts (x .5) (x .0) (x .8))
 

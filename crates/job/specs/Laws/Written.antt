@@ -21,20 +21,15 @@ use Rattle.job.specs.Pass.{jobOf, edge}
 use Rattle.job.specs.Laws.Number.{length-bytes}
 use Rattle.job.specs.Laws.Judged.{skip}
 use Rattle.job.specs.Laws.Encoded.{number-read}
+use Rattle.job.specs.Laws.Stored.{step-size, link-size, flat-size}
 use Rattle.job.specs.Laws.Tests.{never}
 use Rattle.job.specs.Laws.Turn.{Turn, halts, goes-on, is-end, turn}
-
--- records of five bytes each
-length-fives : {A : Type 0} (f : A → List ℕ) → ((a : A) → length (f a) ≡ 5) → (xs : List A) → length (flatMap f xs) ≡ 5 * length xs
-unfolding flatMap
-length-fives f h [] = refl
-length-fives f h (x ∷ xs) = rw (length-append (f x) (flatMap f xs), h x, length-fives f h xs) (omega arith)
 
 pub file-size : (j : Job) → length (fileOf j) ≡ fileLength (length (j .tasks)) (length (j .edges))
 unfolding fileOf fileLength rackBytes stepBytes linkBytes
 file-size j =
-    let s : length (flatMap stepBytes (j .tasks)) ≡ 5 * length (j .tasks) = length-fives stepBytes (λ d. ap suc (length-bytes 4 d)) (j .tasks) in
-    let l : length (flatMap linkBytes (j .edges)) ≡ 5 * length (j .edges) = length-fives linkBytes (λ e. ap (λ (n : ℕ). suc (suc (suc n))) (length-bytes 2 (e .count))) (j .edges) in
+    let s : length (flatMap stepBytes (j .tasks)) ≡ 5 * length (j .tasks) = flat-size stepBytes step-size (j .tasks) in
+    let l : length (flatMap linkBytes (j .edges)) ≡ 5 * length (j .edges) = flat-size linkBytes link-size (j .edges) in
     simp length-append (omega arith)
 
 -- what holds where the writer takes a job

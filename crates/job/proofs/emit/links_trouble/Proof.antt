@@ -1,3 +1,15 @@
+-- `emit::links_trouble`: what is left of the row, after the last key, has the trouble of the whole, as long as none was met.
+use mathlib.Core.Path.{_≡_, refl, ap, sym, _∙_}
+use mathlib.Core.List.{List}
+use Prim.Native.Nat.{ℕ, zero, suc, _+_, _*_, _-_, _≤_, _<_}
+use native.Mathlib.Numerals.{add-one}
+use native.Mathlib.Omega.{arith}
+use borrow.Author.Needs.{needs}
+use borrow.Author.Tests.{eq-eqb, ne-eqb}
+use lib.ListN.{length, getD}
+use Rattle.job.specs.Job.{Edge}
+use Rattle.job.specs.Write.{values, edgeHeld}
+use Rattle.job.specs.Pass.{edge, key, linkTrouble, linksTrouble}
 use Rattle.job.proofs.emit.links_trouble.Statement.{statement}
 use Rattle.job.proofs.emit.links_trouble.Tie as tie
 use Rattle.job.proofs.emit.links_trouble.Reads as reads
@@ -5,63 +17,71 @@ use Rattle.job.proofs.emit.links_trouble.Lts as lts
 use Rattle.job.proofs.record.key.Reads as key-reads
 use Rattle.job.proofs.record.link_trouble.Reads as link-trouble-reads
 
+module _ (from to counts : List ℕ) (m l i least : ℕ) where
+  left : List Edge
+  left = values (edgeHeld from to counts) i (l - i)
+
+  none-left : l ≤ i → linksTrouble m least left ≡ 0
+  unfolding linksTrouble values left
+  none-left h = let e : l - i ≡ 0 = omega arith in rw e
+
+  module _ (h : i < l) (r : ℕ) (is : r ≡ linkTrouble m least (edge (getD from i 0) (getD to i 0) (getD counts i 0))) where
+    met : (r ≡ 0 → ⊥) → linksTrouble m least left ≡ r
+    unfolding linksTrouble values left edgeHeld
+    met z = let e : l - i ≡ suc (l - (i + 1)) = omega arith in rw (e, ← is) (simp (ne-eqb _ _ z))
+
+    on : (k : ℕ) → k ≡ 256 * getD from i 0 + getD to i 0 → r ≡ 0 → linksTrouble m least left ≡ linksTrouble m (k + 1) (values (edgeHeld from to counts) (i + 1) (l - (i + 1)))
+    unfolding linksTrouble values left edgeHeld key
+    on k q z = let e : l - i ≡ suc (l - (i + 1)) = omega arith in rw (e, ← is, ← q, ← add-one i) (simp (eq-eqb _ _ z))
+
 abbrev Inv-loop : tie.InvT-loop
-Inv-loop tasks edges from to counts i₀ least₀ i least = ?
+Inv-loop tasks edges from to counts i₀ least₀ i least =
+    (i ≤ edges) × (edges ≤ length from) × (edges ≤ length to) × (edges ≤ length counts)
+    × (linksTrouble tasks least (left from to counts tasks edges i least) ≡ linksTrouble tasks 0 (values (edgeHeld from to counts) 0 edges))
 
 abbrev μ-loop : tie.MeasureT-loop
-μ-loop tasks edges from to counts i₀ least₀ i least = ?
+μ-loop tasks edges from to counts i₀ least₀ i least = edges - i
 
--- src/emit.rt:36:5
 loop-holds : tie.Need-loop-holds Inv-loop μ-loop
-loop-holds c = ?
+unfolding left
+loop-holds c = (search needs, search needs, search needs, search needs, let e : c .before .before .before .args .edges - 0 ≡ c .before .before .before .args .edges = omega arith in rw e)
 
--- src/emit.rt:37:17
-element-copy-out-f : tie.Need-element-copy-out-f Inv-loop μ-loop
-element-copy-out-f c = ?
+shared-slice-read-f : tie.Need-shared-slice-read-f Inv-loop μ-loop
+shared-slice-read-f c = search needs
 
--- src/emit.rt:38:17
-element-copy-out-t : tie.Need-element-copy-out-t Inv-loop μ-loop
-element-copy-out-t c = ?
+shared-slice-read-t : tie.Need-shared-slice-read-t Inv-loop μ-loop
+shared-slice-read-t c = search needs
 
--- src/emit.rt:39:50
 mul-link-trouble : tie.Need-mul-link-trouble Inv-loop μ-loop
-mul-link-trouble c = ?
+mul-link-trouble c = search needs
 
--- src/emit.rt:39:50
-element-copy-out-link-trouble : tie.Need-element-copy-out-link-trouble Inv-loop μ-loop
-element-copy-out-link-trouble c = ?
+shared-slice-read-link-trouble : tie.Need-shared-slice-read-link-trouble Inv-loop μ-loop
+shared-slice-read-link-trouble c = search needs
 
--- src/emit.rt:39:13
 link-trouble-requires : tie.Need-link-trouble-requires Inv-loop μ-loop
-link-trouble-requires c κs = ?
+link-trouble-requires c κs = search needs
 
--- src/emit.rt:41:13
 returns : tie.Need-returns Inv-loop μ-loop
-returns c = ?
+returns c = record { first = sym (met _ _ _ _ _ _ _ (search needs) _ (c .before .link-trouble .ensures) (c .if1 .taken)) ∙ c .before .before .before .before .before .before .loop .inv .4; to-fits = c .before .before .before .before .before .before .before .before .shared-slice-known2 .given; count-fits = c .before .before .before .before .before .before .before .shared-slice-known3 .given }
 
--- src/emit.rt:43:17
 key-requires : tie.Need-key-requires Inv-loop μ-loop
-key-requires c κs = ?
+key-requires c κs = search needs
 
--- src/emit.rt:43:17
 add-least : tie.Need-add-least Inv-loop μ-loop
-add-least c = ?
+add-least c = search needs
 
--- src/emit.rt:44:9
 add-i : tie.Need-add-i Inv-loop μ-loop
-add-i c = ?
+add-i c = search needs
 
--- src/emit.rt:36:5
 loop-less : tie.Need-loop-less Inv-loop μ-loop
-loop-less c = ?
+loop-less c = search needs
 
--- src/emit.rt:36:5
 loop-again : tie.Need-loop-again Inv-loop μ-loop
-loop-again c = ?
+unfolding left
+loop-again c = (search needs, search needs, search needs, search needs, sym (on _ _ _ _ _ _ _ (search needs) _ (c .before .before .link-trouble .ensures) _ (c .key .ensures .0) (c .before .if1 .left)) ∙ c .before .before .before .before .before .before .before .loop .inv .4)
 
--- src/emit.rt:30:1
 returns-2 : tie.Need-returns-2 Inv-loop μ-loop
-returns-2 c = ?
+returns-2 c = record { first = sym (none-left _ _ _ _ _ _ _ (c .loop-test .left)) ∙ c .before .loop .inv .4; to-fits = c .before .before .before .shared-slice-known2 .given; count-fits = c .before .before .shared-slice-known3 .given }
 
 pub links-trouble-spec : {M : Type 1} → statement M
 links-trouble-spec =
@@ -70,10 +90,10 @@ links-trouble-spec =
     Inv-loop
     μ-loop
     loop-holds
-    element-copy-out-f
-    element-copy-out-t
+    shared-slice-read-f
+    shared-slice-read-t
     mul-link-trouble
-    element-copy-out-link-trouble
+    shared-slice-read-link-trouble
     link-trouble-requires
     returns
     key-requires

@@ -1,3 +1,13 @@
+-- `emit::put_links`: the links put so far are stores one after the other.
+use mathlib.Core.Path.{_≡_, refl, ap, sym, _∙_}
+use mathlib.Core.List.{flatMap}
+use Prim.Native.Nat.{ℕ, _+_, _*_, _-_, _≤_, _<_}
+use native.Mathlib.Omega.{arith}
+use borrow.Author.Needs.{needs}
+use lib.ListN.{length, getD}
+use lib.Seq.{sets, length-sets}
+use Rattle.job.specs.Write.{values, edgeHeld, linkBytes}
+use Rattle.job.specs.Laws.Stored.{link-size, store-more}
 use Rattle.job.proofs.emit.put_links.Statement.{statement}
 use Rattle.job.proofs.emit.put_links.Tie as tie
 use Rattle.job.proofs.emit.put_links.Reads as reads
@@ -5,62 +15,53 @@ use Rattle.job.proofs.emit.put_links.Lts as lts
 use Rattle.job.proofs.emit.put_link.Reads as put-link-reads
 
 abbrev Inv-loop : tie.InvT-loop
-Inv-loop edges from to counts out₀ at i₀ out i = ?
+Inv-loop edges from to counts out₀ at i₀ out i =
+    (i ≤ edges) × (edges ≤ 1024) × (at + 5 * edges ≤ length out₀) × (length out ≡ length out₀)
+    × (out ≡ sets out₀ at (flatMap linkBytes (values (edgeHeld from to counts) 0 i)))
 
 abbrev μ-loop : tie.MeasureT-loop
-μ-loop edges from to counts out₀ at i₀ out i = ?
+μ-loop edges from to counts out₀ at i₀ out i = edges - i
 
--- src/emit.rt:106:5
 loop-holds : tie.Need-loop-holds Inv-loop μ-loop
-loop-holds c = ?
+unfolding values flatMap
+loop-holds c = (search needs, search needs, search needs, refl, refl)
 
--- src/emit.rt:107:18
 element-copy-out-put-link : tie.Need-element-copy-out-put-link Inv-loop μ-loop
-element-copy-out-put-link c = ?
+element-copy-out-put-link c = search needs
 
--- src/emit.rt:107:27
 element-copy-out-put-link-2 : tie.Need-element-copy-out-put-link-2 Inv-loop μ-loop
-element-copy-out-put-link-2 c = ?
+element-copy-out-put-link-2 c = search needs
 
--- src/emit.rt:107:34
 mul-put-link : tie.Need-mul-put-link Inv-loop μ-loop
-mul-put-link c = ?
+mul-put-link c = search needs
 
--- src/emit.rt:107:34
 element-copy-out-put-link-3 : tie.Need-element-copy-out-put-link-3 Inv-loop μ-loop
-element-copy-out-put-link-3 c = ?
+element-copy-out-put-link-3 c = search needs
 
--- src/emit.rt:107:55
 mul-put-link-2 : tie.Need-mul-put-link-2 Inv-loop μ-loop
-mul-put-link-2 c = ?
+mul-put-link-2 c = search needs
 
--- src/emit.rt:107:50
 add-put-link : tie.Need-add-put-link Inv-loop μ-loop
-add-put-link c = ?
+add-put-link c = search needs
 
--- src/emit.rt:107:9
 put-link-requires : tie.Need-put-link-requires Inv-loop μ-loop
-put-link-requires c κs = ?
+put-link-requires c κs = search needs
 
--- src/emit.rt:108:9
 add-i : tie.Need-add-i Inv-loop μ-loop
-add-i c = ?
+add-i c = search needs
 
--- src/emit.rt:106:5
 loop-less : tie.Need-loop-less Inv-loop μ-loop
-loop-less c = ?
+loop-less c = search needs
 
--- src/emit.rt:106:5
 loop-again : tie.Need-loop-again Inv-loop μ-loop
-loop-again c = ?
+unfolding edgeHeld
+loop-again c = (search needs, search needs, search needs, c .before .before .put-link .kept .1 .1 .1 .0 ∙ c .before .before .before .before .before .before .before .before .loop .inv .3, store-more linkBytes link-size _ _ _ _ _ _ (c .before .before .before .before .before .before .before .before .loop .inv .4) (c .before .before .put-link .ensures))
 
--- src/emit.rt:101:1
 same-length : tie.Need-same-length Inv-loop μ-loop
-same-length c = ?
+same-length c = search needs
 
--- src/emit.rt:101:1
 returns : tie.Need-returns Inv-loop μ-loop
-returns c = ?
+returns c = let e : c .before .loop .i ≡ c .before .before .before .args .edges = omega arith in rw e at (c .before .loop .inv .4)
 
 pub put-links-spec : {M : Type 1} → statement M
 put-links-spec =

@@ -1,3 +1,13 @@
+-- `emit::put_steps`: the steps put so far are stores one after the other.
+use mathlib.Core.Path.{_≡_, refl, ap, sym, _∙_}
+use mathlib.Core.List.{flatMap}
+use Prim.Native.Nat.{ℕ, _+_, _*_, _-_, _≤_, _<_}
+use native.Mathlib.Omega.{arith}
+use borrow.Author.Needs.{needs}
+use lib.ListN.{length, getD}
+use lib.Seq.{sets, length-sets}
+use Rattle.job.specs.Write.{values, stepBytes}
+use Rattle.job.specs.Laws.Stored.{step-size, store-more}
 use Rattle.job.proofs.emit.put_steps.Statement.{statement}
 use Rattle.job.proofs.emit.put_steps.Tie as tie
 use Rattle.job.proofs.emit.put_steps.Reads as reads
@@ -5,54 +15,46 @@ use Rattle.job.proofs.emit.put_steps.Lts as lts
 use Rattle.job.proofs.emit.put_step.Reads as put-step-reads
 
 abbrev Inv-loop : tie.InvT-loop
-Inv-loop durations tasks out₀ i₀ out i = ?
+Inv-loop durations tasks out₀ i₀ out i =
+    (i ≤ tasks) × (tasks ≤ 256) × (4 + 5 * tasks ≤ length out₀) × (length out ≡ length out₀)
+    × (out ≡ sets out₀ 4 (flatMap stepBytes (values (λ t. getD durations t 0) 0 i)))
 
 abbrev μ-loop : tie.MeasureT-loop
-μ-loop durations tasks out₀ i₀ out i = ?
+μ-loop durations tasks out₀ i₀ out i = tasks - i
 
--- src/emit.rt:94:5
 loop-holds : tie.Need-loop-holds Inv-loop μ-loop
-loop-holds c = ?
+unfolding values flatMap
+loop-holds c = (search needs, search needs, search needs, refl, refl)
 
--- src/emit.rt:95:18
 mul-put-step : tie.Need-mul-put-step Inv-loop μ-loop
-mul-put-step c = ?
+mul-put-step c = search needs
 
--- src/emit.rt:95:18
 element-copy-out-put-step : tie.Need-element-copy-out-put-step Inv-loop μ-loop
-element-copy-out-put-step c = ?
+element-copy-out-put-step c = search needs
 
--- src/emit.rt:95:41
 mul-put-step-2 : tie.Need-mul-put-step-2 Inv-loop μ-loop
-mul-put-step-2 c = ?
+mul-put-step-2 c = search needs
 
--- src/emit.rt:95:37
 add-put-step : tie.Need-add-put-step Inv-loop μ-loop
-add-put-step c = ?
+add-put-step c = search needs
 
--- src/emit.rt:95:9
 put-step-requires : tie.Need-put-step-requires Inv-loop μ-loop
-put-step-requires c κs = ?
+put-step-requires c κs = search needs
 
--- src/emit.rt:96:9
 add-i : tie.Need-add-i Inv-loop μ-loop
-add-i c = ?
+add-i c = search needs
 
--- src/emit.rt:94:5
 loop-less : tie.Need-loop-less Inv-loop μ-loop
-loop-less c = ?
+loop-less c = search needs
 
--- src/emit.rt:94:5
 loop-again : tie.Need-loop-again Inv-loop μ-loop
-loop-again c = ?
+loop-again c = (search needs, search needs, search needs, c .before .before .put-step .kept .1 .0 ∙ c .before .before .before .before .before .before .loop .inv .3, store-more stepBytes step-size _ _ _ _ _ _ (c .before .before .before .before .before .before .loop .inv .4) (c .before .before .put-step .ensures))
 
--- src/emit.rt:89:1
 same-length : tie.Need-same-length Inv-loop μ-loop
-same-length c = ?
+same-length c = search needs
 
--- src/emit.rt:89:1
 returns : tie.Need-returns Inv-loop μ-loop
-returns c = ?
+returns c = let e : c .before .loop .i ≡ c .before .before .before .args .tasks = omega arith in rw e at (c .before .loop .inv .4)
 
 pub put-steps-spec : {M : Type 1} → statement M
 put-steps-spec =

@@ -1,50 +1,66 @@
+-- `emit::steps_trouble`: what is left of the row has the trouble of the whole, as long as none was met.
+use mathlib.Core.Path.{_≡_, refl, ap, sym, _∙_}
+use Prim.Native.Nat.{ℕ, zero, suc, _+_, _-_, _≤_, _<_}
+use native.Mathlib.Numerals.{add-one}
+use native.Mathlib.Omega.{arith}
+use borrow.Author.Needs.{needs}
+use borrow.Author.Tests.{eq-eqb, ne-eqb}
+use lib.ListN.{length, getD}
+use Rattle.job.specs.Write.{values}
+use Rattle.job.specs.Pass.{stepTrouble, stepsTrouble}
 use Rattle.job.proofs.emit.steps_trouble.Statement.{statement}
 use Rattle.job.proofs.emit.steps_trouble.Tie as tie
 use Rattle.job.proofs.emit.steps_trouble.Reads as reads
 use Rattle.job.proofs.emit.steps_trouble.Lts as lts
 use Rattle.job.proofs.record.step_trouble.Reads as step-trouble-reads
 
+module _ (f : ℕ → ℕ) (m i : ℕ) where
+  none-left : m ≤ i → stepsTrouble (values f i (m - i)) ≡ 0
+  unfolding stepsTrouble values
+  none-left h = let e : m - i ≡ 0 = omega arith in rw e
+
+  module _ (h : i < m) (r : ℕ) (is : r ≡ stepTrouble (f i)) where
+    met : (r ≡ 0 → ⊥) → stepsTrouble (values f i (m - i)) ≡ r
+    unfolding stepsTrouble values
+    met z = let e : m - i ≡ suc (m - (i + 1)) = omega arith in rw (e, ← is) (simp (ne-eqb _ _ z))
+
+    on : r ≡ 0 → stepsTrouble (values f i (m - i)) ≡ stepsTrouble (values f (i + 1) (m - (i + 1)))
+    unfolding stepsTrouble values
+    on z = let e : m - i ≡ suc (m - (i + 1)) = omega arith in rw (e, ← is, ← add-one i) (simp (eq-eqb _ _ z))
+
 abbrev Inv-loop : tie.InvT-loop
-Inv-loop durations tasks i₀ i = ?
+Inv-loop durations tasks i₀ i =
+    (i ≤ tasks) × (tasks ≤ length durations) × (stepsTrouble (values (λ t. getD durations t 0) i (tasks - i)) ≡ stepsTrouble (values (λ t. getD durations t 0) 0 tasks))
 
 abbrev μ-loop : tie.MeasureT-loop
-μ-loop durations tasks i₀ i = ?
+μ-loop durations tasks i₀ i = tasks - i
 
--- src/emit.rt:19:5
 loop-holds : tie.Need-loop-holds Inv-loop μ-loop
-loop-holds c = ?
+loop-holds c = (search needs, search needs, let e : c .before .args .tasks - 0 ≡ c .before .args .tasks = omega arith in rw e)
 
--- src/emit.rt:20:44
 mul-step-trouble : tie.Need-mul-step-trouble Inv-loop μ-loop
-mul-step-trouble c = ?
+mul-step-trouble c = search needs
 
--- src/emit.rt:20:44
-element-copy-out-step-trouble : tie.Need-element-copy-out-step-trouble Inv-loop μ-loop
-element-copy-out-step-trouble c = ?
+shared-slice-read-step-trouble : tie.Need-shared-slice-read-step-trouble Inv-loop μ-loop
+shared-slice-read-step-trouble c = search needs
 
--- src/emit.rt:20:13
 step-trouble-requires : tie.Need-step-trouble-requires Inv-loop μ-loop
-step-trouble-requires c κs = ?
+step-trouble-requires c κs = search needs
 
--- src/emit.rt:22:13
 returns : tie.Need-returns Inv-loop μ-loop
-returns c = ?
+returns c = record { first = sym (met _ _ _ (search needs) _ (c .before .step-trouble .ensures) (c .if1 .taken)) ∙ c .before .before .before .before .loop .inv .2; fits = c .before .before .before .before .before .shared-slice-known .given }
 
--- src/emit.rt:24:9
 add-i : tie.Need-add-i Inv-loop μ-loop
-add-i c = ?
+add-i c = search needs
 
--- src/emit.rt:19:5
 loop-less : tie.Need-loop-less Inv-loop μ-loop
-loop-less c = ?
+loop-less c = search needs
 
--- src/emit.rt:19:5
 loop-again : tie.Need-loop-again Inv-loop μ-loop
-loop-again c = ?
+loop-again c = (search needs, search needs, sym (on _ _ _ (search needs) _ (c .before .step-trouble .ensures) (c .if1 .left)) ∙ c .before .before .before .before .loop .inv .2)
 
--- src/emit.rt:14:1
 returns-2 : tie.Need-returns-2 Inv-loop μ-loop
-returns-2 c = ?
+returns-2 c = record { first = sym (none-left _ _ _ (c .loop-test .left)) ∙ c .before .loop .inv .2; fits = c .before .before .shared-slice-known .given }
 
 pub steps-trouble-spec : {M : Type 1} → statement M
 steps-trouble-spec =
@@ -54,7 +70,7 @@ steps-trouble-spec =
     μ-loop
     loop-holds
     mul-step-trouble
-    element-copy-out-step-trouble
+    shared-slice-read-step-trouble
     step-trouble-requires
     returns
     add-i

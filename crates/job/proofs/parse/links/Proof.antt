@@ -6,18 +6,18 @@ use Prim.Native.Nat.{ℕ, suc, _+_, _*_, _-_, _≤_, _<_}
 use native.Mathlib.Omega.{arith}
 use borrow.Author.Needs.{needs}
 use lib.ListN.{length, getD, take, drop, set, replicate, length-drop, length-set}
-use lib.Seq.{length-take-le, getD-drop, drop-drop}
+use lib.Seq.{getD-drop, drop-drop}
 use Rattle.job.specs.declared.Platform.{Platform}
 use Rattle.job.specs.declared.parse.Pass.the-variants.{Count, Trouble}
 use Rattle.job.specs.Number.{number}
 use Rattle.job.specs.Job.{Edge}
 use Rattle.job.specs.Record.{link, kindOf, edgeIn}
 use Rattle.job.specs.Read.{Answer, refused, judged, records}
-use Rattle.job.specs.Write.{edgesOf}
+use Rattle.job.specs.Write.{values, edgeHeld}
 use Rattle.job.specs.Pass.{LinksPassed, jobOf, edge, key, linkTrouble}
 use Rattle.job.specs.Laws.Judged.{at-record, at-end, passOr, passes, stops, Above, above-none, above-more, link-crowded, link-short, link-at, past-body}
-use Rattle.job.specs.Laws.Spare.{spare-set, take-set}
-use Rattle.job.specs.Laws.Edges.{edges-set, Aligned, aligned, length-edges}
+use Rattle.job.specs.Laws.Spare.{spare-set}
+use Rattle.job.specs.Laws.Values.{length-values, edges-set}
 use Rattle.job.proofs.parse.links.Statement.{statement}
 use Rattle.job.proofs.parse.links.Tie as tie
 use Rattle.job.proofs.parse.links.Reads as reads
@@ -37,12 +37,13 @@ record Going (file from to counts : List ℕ) (m l at least : ℕ) : Type 0 wher
   spare-from : drop l from ≡ replicate (1024 - l) 0
   spare-to : drop l to ≡ replicate (1024 - l) 0
   spare-counts : drop l counts ≡ replicate (1024 - l) 0
-  above : Above (take l (edgesOf from to counts)) least
+  above : Above (values (edgeHeld from to counts) 0 l) least
   same : (p : Platform) (ts : List ℕ) → length ts ≡ m →
-      records (drop (4 + 5 * m) file) 0 (jobOf p ts []) ≡ records (drop at file) 0 (jobOf p ts (take l (edgesOf from to counts)))
+      records (drop (4 + 5 * m) file) 0 (jobOf p ts []) ≡ records (drop at file) 0 (jobOf p ts (values (edgeHeld from to counts) 0 l))
 
 begun : (file from to counts : List ℕ) (m : ℕ) → from ≡ replicate 1024 0 → to ≡ replicate 1024 0 → counts ≡ replicate 1024 0 →
     4 + 5 * m ≤ length file → Going file from to counts m 0 (4 + 5 * m) 0
+unfolding values
 begun file from to counts m a b c h = record {
   few = omega arith;
   place = omega arith;
@@ -59,17 +60,11 @@ begun file from to counts m a b c h = record {
 
 module _ (file from to counts : List ℕ) (m l at least : ℕ) (g : Going file from to counts m l at least) where
   es : List Edge
-  es = take l (edgesOf from to counts)
-
-  all-aligned : Aligned from to counts
-  all-aligned = aligned from to counts 1024 (g .long-from) (g .long-to) (g .long-counts)
-
-  all-long : length (edgesOf from to counts) ≡ 1024
-  all-long = length-edges all-aligned ∙ g .long-from
+  es = values (edgeHeld from to counts) 0 l
 
   taken : length es ≡ l
   unfolding es
-  taken = length-take-le l (edgesOf from to counts) (omega (arith, g .few, all-long))
+  taken = length-values (edgeHeld from to counts) 0 l
 
   ended : length file ≤ at → LinksPassed file m from to counts (Trouble 1)
   ended h p ts e = g .same p ts e ∙ at-end file at _ h
@@ -115,9 +110,9 @@ module _ (file from to counts : List ℕ) (m l at least : ℕ) (g : Going file f
         bad : (t : ℕ) → t ≡ linkTrouble m least (edge x y n) → (t ≡ 0 → ⊥) → LinksPassed file m from to counts (Trouble t)
         bad t i z p ts e = link-is p ts e ∙ rw (← i) (stops t _ z)
 
-        grown : take (l + 1) (edgesOf (set from l x) (set to l y) (set counts l n)) ≡ es ++ (edge x y n ∷ [])
+        grown : values (edgeHeld (set from l x) (set to l y) (set counts l n)) 0 (l + 1) ≡ es ++ (edge x y n ∷ [])
         unfolding es
-        grown = ap (λ (w : List Edge). take (l + 1) w) (edges-set from to counts l x y n) ∙ take-set (edgesOf from to counts) l (edge x y n) (omega (arith, all-long))
+        grown = edges-set from to counts l x y n (omega (arith, g .long-from)) (omega (arith, g .long-to)) (omega (arith, g .long-counts))
 
         on : (q : ℕ) → q ≡ 256 * x + y → linkTrouble m least (edge x y n) ≡ 0 → Going file (set from l x) (set to l y) (set counts l n) m (l + 1) (at + 5) (q + 1)
         unfolding key
