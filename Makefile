@@ -1,0 +1,36 @@
+# make test      the gate: the cases are what the generator makes, then all is proved, refused and run from nothing
+# make check     proves what has changed, and runs the programs
+# make vectors   makes the cases of crates/vectors again
+# make bench     times the job reader and writer against a plain Rust reader and writer
+# make clean     removes what was made
+
+need = @command -v $(1) >/dev/null 2>&1 || { echo "$(1) is not on the path: $(2)"; exit 2; }
+need-rt = $(call need,rt,install the Rattle kit and link its bin/rt)
+need-python = $(call need,python3,install Python 3)
+need-rust = $(call need,rustc,install Rust)
+need-cc = $(call need,cc,install a C compiler; rustc links with it)
+
+.PHONY: test check vectors bench clean
+
+test:
+	@.ci/run
+
+check:
+	$(need-rt)
+	@rt check
+
+vectors:
+	$(need-python)
+	@python3 tests/make_vectors.py
+
+bench:
+	$(need-rt)
+	$(need-rust)
+	$(need-cc)
+	@rt staticlib timing
+	@rustc --edition 2021 -O -C target-cpu=x86-64 -C codegen-units=1 \
+		-L native=target/staticlib -l static=timing -o target/bench bench/main.rs
+	@target/bench crates/vectors/stdin
+
+clean:
+	@rm -rf target

@@ -1,0 +1,64 @@
+-- `timing::timing_copy` returns what the writer answers for what was read, and leaves what the writer leaves.
+use mathlib.Core.Path.{_≡_, ap, _∙_}
+use mathlib.Core.List.{List}
+use Prim.Native.Nat.{ℕ}
+use borrow.Author.Needs.{needs}
+use Rattle.job.specs.declared.Reading.{Reading}
+use Rattle.job.specs.declared.Verdict.the-variants.{Counts, Refused}
+use Rattle.job.specs.declared.Written.{Written}
+use Rattle.job.specs.Write.{heldJob, WrittenAs}
+use Rattle.timing.specs.Timing.{readNumber, writtenNumber, heldIn, copyAnswer, copyOut, Copied}
+use Rattle.timing.proofs.timing_copy.Statement.{statement}
+use Rattle.timing.proofs.timing_copy.Tie as tie
+
+module _ (x r : Reading) (e : x ≡ r) (out : List ℕ) where
+  refuses : (k n : ℕ) → x .verdict ≡ Refused k → n ≡ readNumber (x .verdict) → Copied n out r out
+  unfolding copyAnswer copyOut
+  refuses k n h g = rw (← e) (record { answer = g ∙ rw h; output = rw h })
+
+  writes : (m l n : ℕ) (w : Written) (after : List ℕ) → x .verdict ≡ Counts m l → n ≡ writtenNumber w →
+      WrittenAs w after m l (heldJob (x .platform) m l (x .durations) (x .from) (x .to) (x .counts)) out → Copied n after r out
+  unfolding copyAnswer copyOut heldIn
+  writes m l n w after h g k =
+      rw (← e) (record { answer = g ∙ ap writtenNumber (k .answer) ∙ rw h; output = k .output ∙ rw h })
+
+read-requires : tie.Need-read-requires
+read-requires c κs = search needs
+
+enum-known-verdict : tie.Need-enum-known-verdict
+enum-known-verdict c = search needs
+
+enum-told : tie.Need-enum-told
+enum-told c = search needs
+
+read-number-requires : tie.Need-read-number-requires
+read-number-requires c κs = search needs
+
+returns : tie.Need-returns
+returns c = refuses _ _ (c .before .before .before .read .ensures) _ _ _ (c .before .enum-told .given .1) (c .read-number .ensures)
+
+write-requires : tie.Need-write-requires
+write-requires c κs = search needs
+
+written-number-requires : tie.Need-written-number-requires
+written-number-requires c κs = search needs
+
+same-length : tie.Need-same-length
+same-length c = search needs
+
+returns-2 : tie.Need-returns-2
+returns-2 c = writes _ _ (c .before .before .before .before .before .before .before .before .before .before .before .before .before .before .read .ensures) _ _ _ _ _ _ (c .before .before .before .before .before .before .before .before .before .before .before .before .verdict .given .1) (c .written-number .ensures) (c .before .before .before .write .ensures)
+
+pub timing-copy-spec : {M : Type 1} → statement M
+timing-copy-spec =
+    tie.close
+    (tie.spec
+    read-requires
+    enum-known-verdict
+    enum-told
+    read-number-requires
+    returns
+    write-requires
+    written-number-requires
+    same-length
+    returns-2)

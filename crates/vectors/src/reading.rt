@@ -1,0 +1,177 @@
+// A case of the reader: what it finds, that every spare place is 0, and that the writer gives the same bytes again.
+use crate::number;
+use crate::show;
+use job::Platform;
+use job::Verdict;
+use job::Written;
+
+fn show_platform(p: Platform) {
+    show::text(b" platform");
+    show::word(number::wide8(p.processors));
+    show::word(number::wide8(p.topology));
+    show::word(number::wide8(p.unit));
+}
+
+fn show_counts(tasks: usize, edges: usize, p: Platform) {
+    show::text(b"job");
+    show::word(number::wide(tasks));
+    show::word(number::wide(edges));
+    show_platform(p);
+}
+
+fn show_refusal(number: u8, p: Platform) {
+    show::text(b"refused");
+    show::word(number::wide8(number));
+    show_platform(p);
+}
+
+// The first `tasks` durations.
+fn show_tasks(durations: &[u32; 256], tasks: usize) {
+    let mut i: usize = 0;
+    while i < 256 {
+        if tasks <= i {
+            return;
+        }
+        show::word(number::wide32(durations[i]));
+        i += 1;
+    }
+}
+
+fn show_edge(from: u8, to: u8, count: u16) {
+    show::word(number::wide8(from));
+    show::word(number::wide8(to));
+    show::word(number::wide16(count));
+}
+
+// The first `edges` edges.
+fn show_edges(from: &[u8; 1024], to: &[u8; 1024], counts: &[u16; 1024], edges: usize) {
+    let mut i: usize = 0;
+    while i < 1024 {
+        if edges <= i {
+            return;
+        }
+        show_edge(from[i], to[i], counts[i]);
+        i += 1;
+    }
+}
+
+// Whether the durations from place `tasks` on are 0.
+fn are_tasks_clear(durations: &[u32; 256], tasks: usize) -> bool {
+    let mut i = tasks;
+    while i < 256 {
+        if durations[i] != 0 {
+            return false;
+        }
+        i += 1;
+    }
+    true
+}
+
+// Whether all three arrays are 0 from place `edges` on.
+fn are_edges_clear(from: &[u8; 1024], to: &[u8; 1024], counts: &[u16; 1024], edges: usize) -> bool {
+    let mut i = edges;
+    while i < 1024 {
+        if from[i] != 0 {
+            return false;
+        }
+        if to[i] != 0 {
+            return false;
+        }
+        if counts[i] != 0 {
+            return false;
+        }
+        i += 1;
+    }
+    true
+}
+
+fn show_spare(are_tasks_clear: bool, are_edges_clear: bool) {
+    if are_tasks_clear {
+        if are_edges_clear {
+            show::text(b" spare 0");
+            return;
+        }
+    }
+    show::text(b" spare set");
+}
+
+fn show_job<'a>(
+    tasks: usize,
+    edges: usize,
+    durations: &'a [u32; 256],
+    from: &'a [u8; 1024],
+    to: &'a [u8; 1024],
+    counts: &'a [u16; 1024],
+) {
+    show::text(b" tasks");
+    show_tasks(durations, tasks);
+    show::text(b" edges");
+    show_edges(from, to, counts, edges);
+    show_spare(
+        are_tasks_clear(durations, tasks),
+        are_edges_clear(from, to, counts, edges),
+    );
+}
+
+fn is_same(file: &[u8], out: &[u8], written: Written) -> bool {
+    let Written::Length(n) = written else {
+        return false;
+    };
+    check::same(file, show::first(out, n))
+}
+
+// Writes the job again, and says whether that gives the same bytes.
+fn show_again<'a>(
+    file: &[u8],
+    platform: Platform,
+    tasks: usize,
+    edges: usize,
+    durations: &'a [u32; 256],
+    from: &'a [u8; 1024],
+    to: &'a [u8; 1024],
+    counts: &'a [u16; 1024],
+) {
+    let mut out = [238u8; 8192];
+    let written = job::write(
+        platform,
+        tasks,
+        edges,
+        durations,
+        from,
+        to,
+        counts,
+        &mut out,
+    );
+    if is_same(file, &out, written) {
+        show::text(b" same\n");
+    } else {
+        show::text(b" differs\n");
+    }
+}
+
+// Runs the case of a file.
+pub fn case(file: &[u8]) {
+    let r = job::read(file);
+    let verdict = r.verdict;
+    match verdict {
+        Verdict::Counts { tasks, edges } => {
+            show_counts(tasks, edges, r.platform);
+            show_job(tasks, edges, &r.durations, &r.from, &r.to, &r.counts);
+            show_again(
+                file,
+                r.platform,
+                tasks,
+                edges,
+                &r.durations,
+                &r.from,
+                &r.to,
+                &r.counts,
+            );
+        }
+        Verdict::Refused(number) => {
+            show_refusal(number, r.platform);
+            show_job(0, 0, &r.durations, &r.from, &r.to, &r.counts);
+            show::text(b"\n");
+        }
+    }
+}

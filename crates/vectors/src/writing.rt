@@ -1,0 +1,124 @@
+// A case of the writer: what it answers, and the whole output afterwards. Its body:
+//
+//   0  tasks (8 bytes)           19  fill of the output             28  fill of from
+//   8  edges (8 bytes)           20  length of the output (2)       29  fill of to
+//  16  processors                22  number of durations given (2)  30  fill of the counts (2)
+//  17  topology                  24  fill of the durations (4)      32  the durations given (4 each), then
+//  18  unit cost                                                        edges: from, to, count (4 each)
+//
+// Places of the arrays past those that are given hold the fill.
+use crate::number;
+use crate::show;
+use job::Platform;
+use job::Written;
+ghost use Prim.Native.Nat.{_+_, _*_, _≤_};
+ghost use lib.ListN.{length};
+
+fn put_durations(body: &[u8], given: usize, durations: &mut [u32; 256])
+    requires { ⌜ (given ≤ 256) × (32 + 4 * given ≤ length (now body)) ⌝ }
+{
+    let mut i: usize = 0;
+    while i < given {
+        durations[i] = number::four(body, 32 + 4 * i) as u32;
+        i += 1;
+    }
+}
+
+// The edges given, from byte `at` of the body on.
+fn put_edges(
+    body: &[u8],
+    at: usize,
+    from: &mut [u8; 1024],
+    to: &mut [u8; 1024],
+    counts: &mut [u16; 1024],
+) {
+    let mut i: usize = 0;
+    let mut place = at;
+    while i < 1024 {
+        if body.len() < 4 {
+            return;
+        }
+        if body.len() - 4 < place {
+            return;
+        }
+        from[i] = body[place];
+        to[i] = body[place + 1];
+        counts[i] = number::two(body, place + 2) as u16;
+        place += 4;
+        i += 1;
+    }
+}
+
+fn show_written(written: Written) {
+    match written {
+        Written::Length(n) => {
+            show::text(b"written");
+            show::word(number::wide(n));
+        }
+        Written::Refused(number) => {
+            show::text(b"refused");
+            show::word(number::wide8(number));
+        }
+    }
+}
+
+// Writes the job to the first `room` bytes of the output.
+fn write<'a>(
+    body: &[u8],
+    room: usize,
+    durations: &'a [u32; 256],
+    from: &'a [u8; 1024],
+    to: &'a [u8; 1024],
+    counts: &'a [u16; 1024],
+    out: &mut [u8],
+)
+    requires { ⌜ (32 ≤ length (now body)) × (room ≤ length (now out)) ⌝ }
+{
+    let platform = Platform {
+        processors: body[16],
+        topology: body[17],
+        unit: body[18],
+    };
+    let tasks = number::eight(body, 0) as usize;
+    let edges = number::eight(body, 8) as usize;
+    let written = job::write(
+        platform,
+        tasks,
+        edges,
+        durations,
+        from,
+        to,
+        counts,
+        &mut out[0..room],
+    );
+    show_written(written);
+    show::text(b" [");
+    show::hex(show::first(out, room));
+    show::text(b"]\n");
+}
+
+// Runs the case of a job held as numbers.
+pub fn case(body: &[u8]) {
+    if body.len() < 32 {
+        return;
+    }
+    let room = number::two(body, 20) as usize;
+    let given = number::two(body, 22) as usize;
+    if 8192 < room {
+        return;
+    }
+    if 256 < given {
+        return;
+    }
+    if body.len() < 32 + 4 * given {
+        return;
+    }
+    let mut durations = [number::four(body, 24) as u32; 256];
+    let mut from = [body[28]; 1024];
+    let mut to = [body[29]; 1024];
+    let mut counts = [number::two(body, 30) as u16; 1024];
+    put_durations(body, given, &mut durations);
+    put_edges(body, 32 + 4 * given, &mut from, &mut to, &mut counts);
+    let mut out = [body[19]; 8192];
+    write(body, room, &durations, &from, &to, &counts, &mut out);
+}
