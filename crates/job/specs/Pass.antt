@@ -109,6 +109,6 @@ LinksPassed file m from to counts (Count l) =
     × (length from ≡ 1024) × (length to ≡ 1024) × (length counts ≡ 1024)
     × (drop l from ≡ replicate (1024 - l) 0) × (drop l to ≡ replicate (1024 - l) 0) × (drop l counts ≡ replicate (1024 - l) 0)
     × ((p : Platform) (ts : List ℕ) → length ts ≡ m →
-      records (drop (4 + 5 * m) file) 0 (jobOf p ts []) ≡ records (drop (4 + 5 * m + 5 * l) file) 0 (jobOf p ts (values (edgeHeld from to counts) 0 l)))
+    records (drop (4 + 5 * m) file) 0 (jobOf p ts []) ≡ records (drop (4 + 5 * m + 5 * l) file) 0 (jobOf p ts (values (edgeHeld from to counts) 0 l)))
 LinksPassed file m from to counts (Trouble k) =
     (p : Platform) (ts : List ℕ) → length ts ≡ m → records (drop (4 + 5 * m) file) 0 (jobOf p ts []) ≡ refused k

@@ -1,7 +1,6 @@
 // The writer's parts: the judgement of a job held as numbers, and the bytes of its records.
-use crate::record;
 use crate::Platform;
-
+use crate::record;
 ghost use mathlib.Core.Path.{_≡_};
 ghost use Prim.Native.Nat.{_+_, _*_, _≤_, _<_};
 ghost use mathlib.Core.List.{flatMap};
@@ -98,7 +97,14 @@ fn put_steps(durations: &[u32; 256], tasks: usize, out: &mut [u8])
 }
 
 // Writes the first `edges` links from byte `at` on.
-fn put_links(edges: usize, from: &[u8; 1024], to: &[u8; 1024], counts: &[u16; 1024], out: &mut [u8], at: usize)
+fn put_links(
+    edges: usize,
+    from: &[u8; 1024],
+    to: &[u8; 1024],
+    counts: &[u16; 1024],
+    out: &mut [u8],
+    at: usize,
+)
     requires { ⌜ (edges ≤ 1024) × (at + 5 * edges ≤ length (now out)) ⌝ }
     ensures { λ _. ⌜ now (out .exit) ≡ sets (now (out .entry)) at (flatMap linkBytes (values (edgeHeld (now (from .entry)) (now (to .entry)) (now (counts .entry))) 0 edges)) ⌝ }
 {

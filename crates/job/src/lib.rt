@@ -1,12 +1,11 @@
 // The job file: its reader and its writer (document 01, "The job file").
-mod record;
-mod parse;
 mod emit;
+mod parse;
+mod record;
 
 ghost use mathlib.Core.Path.{_≡_};
 ghost use Rattle.job.specs.Read.{refused, readJob, readingOf};
 ghost use Rattle.job.specs.Write.{heldJob, WrittenAs};
-
 use parse::Pass;
 
 // Processors n, topology (0 complete, 1 hypercube, 2 ring) and unit cost c (01: the rack).

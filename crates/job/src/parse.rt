@@ -1,6 +1,5 @@
 // The reader's passes: the rack, the steps, the links. A pass stops at the first record of another kind, which the reader judges.
 use crate::record;
-
 ghost use mathlib.Core.Path.{_≡_};
 ghost use Prim.Native.Nat.{_+_, _*_, _≤_, _<_};
 ghost use lib.ListN.{length, replicate};
@@ -81,7 +80,13 @@ pub fn steps(file: &[u8], durations: &mut [u32; 256]) -> Pass
 }
 
 // The links after `tasks` steps.
-pub fn links(file: &[u8], tasks: usize, from: &mut [u8; 1024], to: &mut [u8; 1024], counts: &mut [u16; 1024]) -> Pass
+pub fn links(
+    file: &[u8],
+    tasks: usize,
+    from: &mut [u8; 1024],
+    to: &mut [u8; 1024],
+    counts: &mut [u16; 1024],
+) -> Pass
     requires { ⌜ (1 ≤ tasks) × (tasks ≤ 256) × (4 + 5 * tasks ≤ length (now file)) ⌝ }
     requires { ⌜ (now from ≡ replicate 1024 0) × (now to ≡ replicate 1024 0) × (now counts ≡ replicate 1024 0) ⌝ }
     ensures { λ r. ⌜ LinksPassed (now (file .entry)) tasks (now (from .exit)) (now (to .exit)) (now (counts .exit)) r ⌝ }

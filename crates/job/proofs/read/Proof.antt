@@ -99,9 +99,12 @@ module _ (file : List ℕ) (some : 1 ≤ getD file 1 0) (begins : readJob file �
       unfolding stands noRack job
       closing b i h rack e = racked
       closing b i h step e =
-          simp (racked, empty-not (values (edgeHeld from to counts) 0 l) (λ z.
-            let z′ : 4 + 5 * m + 5 * l ≡ 4 + 5 * m = omega (arith, linked) in
-            s .2 (rw z′ at (sym i ∙ e))))
+          simp (
+            racked,
+            empty-not (values (edgeHeld from to counts) 0 l) (λ z.
+                let z′ : 4 + 5 * m + 5 * l ≡ 4 + 5 * m = omega (arith, linked) in
+                s .2 (rw z′ at (sym i ∙ e))),
+          )
       closing b i h link e = absurd (x .2 (sym i ∙ e))
       closing b i h end e = absurd (h e)
 
@@ -129,9 +132,18 @@ module _ (file : List ℕ) (some : 1 ≤ getD file 1 0) (begins : readJob file �
       done e h =
           let z : length (drop (suc (4 + 5 * m + 5 * l)) file) ≡ 0 = simp length-drop (omega arith) in
           let a : readJob file ≡ accepted job = ends e ∙ simp (empty-is (drop (suc (4 + 5 * m + 5 * l)) file) z) in
-          rw (a, taken, linked, column (λ e. e .from) from (x .3) (λ i. refl), column (λ e. e .to) to (x .4) (λ i. refl), column (λ e. e .count) counts (x .5) (λ i. refl),
-            ← filled 256 m durations (s .3) (s .0) (s .4), ← filled 1024 l from (x .3) (x .0) (x .6),
-            ← filled 1024 l to (x .4) (x .0) (x .7), ← filled 1024 l counts (x .5) (x .0) (x .8))
+          rw (
+            a,
+            taken,
+            linked,
+            column (λ e. e .from) from (x .3) (λ i. refl),
+            column (λ e. e .to) to (x .4) (λ i. refl),
+            column (λ e. e .count) counts (x .5) (λ i. refl),
+            ← filled 256 m durations (s .3) (s .0) (s .4),
+            ← filled 1024 l from (x .3) (x .0) (x .6),
+            ← filled 1024 l to (x .4) (x .0) (x .7),
+            ← filled 1024 l counts (x .5) (x .0) (x .8),
+          )
 
 rack-requires : tie.Need-rack-requires
 rack-requires c κs = search needs

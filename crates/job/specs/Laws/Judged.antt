@@ -124,14 +124,14 @@ unfolding rises key
 rises-key a e h k = ⊎-elim
     (λ (l : a .from < e .from). simp (lt-ltb _ _ l) (sym (le-leb (256 * a .from + a .to + 1) (256 * e .from + e .to) (omega arith))))
     (λ (g : e .from ≤ a .from). ⊎-elim
-      (λ (l : e .from < a .from). simp (le-ltb _ _ g, ne-eqb (a .from) (e .from) (λ q. omega arith)) (sym (lt-leb (256 * a .from + a .to + 1) (256 * e .from + e .to) (omega arith))))
-      (λ (g′ : a .from ≤ e .from).
-        let q : a .from ≡ e .from = omega arith in
-        simp (le-ltb _ _ g, eq-eqb _ _ q) (⊎-elim
-          (λ (l : a .to < e .to). lt-ltb _ _ l ∙ sym (le-leb (256 * a .from + a .to + 1) (256 * e .from + e .to) (omega arith)))
-          (λ (l : e .to ≤ a .to). le-ltb _ _ l ∙ sym (lt-leb (256 * a .from + a .to + 1) (256 * e .from + e .to) (omega arith)))
-          (lt-or-ge (a .to) (e .to))))
-      (lt-or-ge (e .from) (a .from)))
+    (λ (l : e .from < a .from). simp (le-ltb _ _ g, ne-eqb (a .from) (e .from) (λ q. omega arith)) (sym (lt-leb (256 * a .from + a .to + 1) (256 * e .from + e .to) (omega arith))))
+    (λ (g′ : a .from ≤ e .from).
+    let q : a .from ≡ e .from = omega arith in
+    simp (le-ltb _ _ g, eq-eqb _ _ q) (⊎-elim
+    (λ (l : a .to < e .to). lt-ltb _ _ l ∙ sym (le-leb (256 * a .from + a .to + 1) (256 * e .from + e .to) (omega arith)))
+    (λ (l : e .to ≤ a .to). le-ltb _ _ l ∙ sym (lt-leb (256 * a .from + a .to + 1) (256 * e .from + e .to) (omega arith)))
+    (lt-or-ge (a .to) (e .to))))
+    (lt-or-ge (e .from) (a .from)))
     (lt-or-ge (a .from) (e .from))
 
 pub above-more : (es : List Edge) (a : Edge) → a .to < 256 → Above (es ++ (a ∷ [])) (key a + 1)

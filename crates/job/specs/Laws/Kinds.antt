@@ -33,8 +33,8 @@ beyond b h1 h2 h3 h4 =
     ⊎-elim (λ (l : b < 1). simp (lt-leb 1 b l))
     (λ (g : 1 ≤ b). ⊎-elim (λ (l : 4 < b). simp (le-leb 1 b g, lt-leb b 4 l))
     (λ (l : b ≤ 4). absurd (⊎-elim (λ (a : b < 2). h1 (omega arith))
-      (λ (a : 2 ≤ b). ⊎-elim (λ (d : b < 3). h2 (omega arith))
-      (λ (d : 3 ≤ b). ⊎-elim (λ (e : b < 4). h3 (omega arith)) (λ (e : 4 ≤ b). h4 (omega arith)) (lt-or-ge b 4)) (lt-or-ge b 3)) (lt-or-ge b 2)))
+    (λ (a : 2 ≤ b). ⊎-elim (λ (d : b < 3). h2 (omega arith))
+    (λ (d : 3 ≤ b). ⊎-elim (λ (e : b < 4). h3 (omega arith)) (λ (e : 4 ≤ b). h4 (omega arith)) (lt-or-ge b 4)) (lt-or-ge b 3)) (lt-or-ge b 2)))
     (lt-or-ge 4 b)) (lt-or-ge b 1)
 
 pub kind-at : (b : ℕ) → KindAt b (kindOf b)

@@ -75,7 +75,7 @@ pub edges-set : (from to counts : List ℕ) (l f t c : ℕ) → l < length from 
 unfolding edgeHeld
 edges-set from to counts l f t c hf ht hc =
     let g = values-same (edgeHeld (set from l f) (set to l t) (set counts l c)) (edgeHeld from to counts) 0 l
-          (λ n a b. rw (getD-set-other from l n f 0 (λ e. omega arith), getD-set-other to l n t 0 (λ e. omega arith), getD-set-other counts l n c 0 (λ e. omega arith))) in
+    (λ n a b. rw (getD-set-other from l n f 0 (λ e. omega arith), getD-set-other to l n t 0 (λ e. omega arith), getD-set-other counts l n c 0 (λ e. omega arith))) in
     values-more (edgeHeld (set from l f) (set to l t) (set counts l c)) l
     ∙ rw (g, getD-set-same from l f 0 hf, getD-set-same to l t 0 ht, getD-set-same counts l c 0 hc)
 

@@ -67,7 +67,7 @@ module _ (p : Platform) (m l : ℕ) (durations from to counts : List ℕ) where
       steps-read =
           read-all ∙ passes _ _ ok
           ∙ read-steps p (rack-fits p ok) [] tasks links
-            (each-value (λ t. getD durations t 0) (λ d. d < 2 ^ 32) 0 (omega arith) (λ t. fits t .fits) 0 m) (omega (arith, length-values (λ t. getD durations t 0) 0 m))
+          (each-value (λ t. getD durations t 0) (λ d. d < 2 ^ 32) 0 (omega arith) (λ t. fits t .fits) 0 m) (omega (arith, length-values (λ t. getD durations t 0) 0 m))
 
       bad-step : (r : ℕ) → r ≡ stepsTrouble tasks → (r ≡ 0 → ⊥) → readJob (fileOf job) ≡ refused r
       bad-step r is z = rw is (steps-read ∙ stops _ _ (λ e. z (is ∙ e)))

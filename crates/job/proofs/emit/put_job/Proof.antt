@@ -36,11 +36,11 @@ module _ (p : Platform) (m l : ℕ) (durations from to counts : List ℕ) where
         let s : length (flatMap stepBytes tasks) ≡ 5 * m = flat-size stepBytes step-size tasks ∙ ap (λ (n : ℕ). 5 * n) (length-values (λ t. getD durations t 0) 0 m) in
         let k : length (flatMap linkBytes edges) ≡ 5 * l = flat-size linkBytes link-size edges ∙ ap (λ (n : ℕ). 5 * n) (length-values (edgeHeld from to counts) 0 l) in
         let a : sets out1 4 (flatMap stepBytes tasks ++ links) ≡ sets out2 (4 + 5 * m) links =
-            sets-append out1 4 (flatMap stepBytes tasks) links ∙ rw (s, ← steps-put) in
+        sets-append out1 4 (flatMap stepBytes tasks) links ∙ rw (s, ← steps-put) in
         let b : sets out2 (4 + 5 * m) links ≡ sets out3 (4 + 5 * m + 5 * l) (4 ∷ []) =
-            sets-append out2 (4 + 5 * m) (flatMap linkBytes edges) (4 ∷ []) ∙ rw (k, ← links-put) in
+        sets-append out2 (4 + 5 * m) (flatMap linkBytes edges) (4 ∷ []) ∙ rw (k, ← links-put) in
         let d : sets out 0 (fileOf (heldJob p m l durations from to counts)) ≡ sets out1 4 (flatMap stepBytes tasks ++ links) =
-            sets-append out 0 (rackBytes p) (flatMap stepBytes tasks ++ links) ∙ rw (← rack-put) in
+        sets-append out 0 (rackBytes p) (flatMap stepBytes tasks ++ links) ∙ rw (← rack-put) in
         sym (d ∙ a ∙ b)
 
 mul-links : tie.Need-mul-links

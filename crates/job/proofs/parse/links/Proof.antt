@@ -105,7 +105,7 @@ module _ (file from to counts : List ℕ) (m l at least : ℕ) (g : Going file f
         link-is =
             after-steps (λ p ts. passOr (linkTrouble m least (edge x y n)) (records (drop (at + 5) file) 0 (jobOf p ts (es ++ (edge x y n ∷ [])))))
             (λ p t ts i. link-at _ p t ts es _ least (omega (arith, taken)) (simp length-drop (omega arith)) (rw edge-is (g .above (edge x y n) byte))
-              ∙ rw (edge-is, i) (ap (passOr (linkTrouble m least (edge x y n))) (past-body file at _)))
+            ∙ rw (edge-is, i) (ap (passOr (linkTrouble m least (edge x y n))) (past-body file at _)))
 
         bad : (t : ℕ) → t ≡ linkTrouble m least (edge x y n) → (t ≡ 0 → ⊥) → LinksPassed file m from to counts (Trouble t)
         bad t i z p ts e = link-is p ts e ∙ rw (← i) (stops t _ z)

@@ -66,7 +66,7 @@ module _ (file : List ℕ) where
     read-there =
         at-record file 0 blank (omega arith) ∙ rw i (rack-at (drop 1 file) (records (drop 1 file)) (simp length-drop (omega arith)))
         ∙ ap (passOr (platformTrouble (platformIn (drop 1 file))))
-          (skip (drop 1 file) 3 _ ∙ ap (λ (l : List ℕ). records l 0 (jobOf (platformIn (drop 1 file)) [] [])) (drop-drop 3 1 file))
+        (skip (drop 1 file) 3 _ ∙ ap (λ (l : List ℕ). records l 0 (jobOf (platformIn (drop 1 file)) [] [])) (drop-drop 3 1 file))
 
     read : readJob file ≡ passOr (platformTrouble (platformAt file)) (records (drop 4 file) 0 (jobOf (platformAt file) [] []))
     read = rw platform-is at read-there
