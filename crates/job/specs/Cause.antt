@@ -1,12 +1,12 @@
--- Why a record is refused: what each number of the reader stands for (01: the refusal table).
+-- Why a file is refused: what each number of the reader stands for, and the places that the reader comes to (01: the refusal table).
 use mathlib.Core.Bool.{false, true}
 use mathlib.Core.Path.{_≡_}
 use mathlib.Core.List.{List}
 use mathlib.Core.Option.{Option, none, some}
-use Prim.Native.Nat.{ℕ, _<_}
-use lib.ListN.{length}
-use Rattle.job.specs.Job.{Job}
-use Rattle.job.specs.Record.{Kind, end, bodyLength, empty, stands, full, inRange, endsRight, inOrder}
+use Prim.Native.Nat.{ℕ, suc, _+_, _<_, _≤_}
+use lib.ListN.{length, getD, drop}
+use Rattle.job.specs.Job.{Job, blank}
+use Rattle.job.specs.Record.{Kind, end, kindOf, bodyLength, empty, stands, full, inRange, endsRight, inOrder, added}
 
 -- why a record of this kind, with `rest` after its kind byte, is refused after the job so far (01: the refusal table)
 pub data Cause (rest : List ℕ) (j : Job) : Option Kind → ℕ → Type 0 where
@@ -18,3 +18,18 @@ pub data Cause (rest : List ℕ) (j : Job) : Option Kind → ℕ → Type 0 wher
   bad-ends : {k : Kind} → endsRight j k rest ≡ false → Cause rest j (some k) 6
   not-above : {k : Kind} → inOrder j k rest ≡ false → Cause rest j (some k) 7
   bytes-after : empty rest ≡ false → Cause rest j (some end) 8
+
+-- a record of kind k without trouble, with `rest` after its kind byte, after the job so far
+pub record Fits (rest : List ℕ) (j : Job) (k : Kind) : Type 0 where
+  pub placed : stands j k ≡ true
+  pub room : full j k ≡ false
+  pub whole : bodyLength k ≤ length rest
+  pub ranges : inRange k rest ≡ true
+  pub ends : endsRight j k rest ≡ true
+  pub order : inOrder j k rest ≡ true
+
+-- the reader comes to this place of the file with this job so far, past records without trouble
+pub data Reached (file : List ℕ) : ℕ → Job → Type 0 where
+  start : Reached file 0 blank
+  next : {at : ℕ} {j : Job} (k : Kind) → Reached file at j → at < length file → kindOf (getD file at 0) ≡ some k → 1 ≤ bodyLength k →
+      Fits (drop (suc at) file) j k → Reached file (suc at + bodyLength k) (added j k (drop (suc at) file))

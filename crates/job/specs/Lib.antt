@@ -7,5 +7,6 @@ pub mod Accepted
 pub mod Cause
 pub mod Refusal
 pub mod RoundTrip
+pub mod Cases
 pub mod Pass
 pub mod Laws

@@ -8,16 +8,16 @@ use lib.ListN.{length, getD, drop}
 use Rattle.job.specs.declared.Written.the-variants.{Refused}
 use Rattle.job.specs.Job.{Job}
 use Rattle.job.specs.Record.{kindOf}
-use Rattle.job.specs.Read.{refused, records, readJob}
-use Rattle.job.specs.Cause.{Cause}
+use Rattle.job.specs.Read.{refused, readJob}
+use Rattle.job.specs.Cause.{Cause, Reached}
 use Rattle.job.specs.Write.{writeAnswer, fileLength, fileOf}
-use Rattle.job.specs.Laws.Halt.{reached-answer, halts-at, cause-number, count-refused, room-refused}
+use Rattle.job.specs.Laws.Halt.{halts-at, cause-number, count-refused, room-refused}
 
--- the reader refuses at a place that it has come to with the job so far: there the file ends (1), or the record has the number's cause
+-- the reader refuses at a place that it comes to with the job so far: there the file ends (1), or the record has the number's cause
 pub read-refused : (file : List ℕ) (n : ℕ) → readJob file ≡ refused n →
-    (at : ℕ) × (j : Job) × (readJob file ≡ records (drop at file) 0 j)
+    (at : ℕ) × (j : Job) × Reached file at j
     × (((length file ≤ at) × (n ≡ 1)) ⊎ ((at < length file) × Cause (drop (suc at) file) j (kindOf (getD file at 0)) n))
-read-refused file n e = let h = halts-at file n e in (h .0, h .1, reached-answer file (h .2), h .3)
+read-refused file n e = halts-at file n e
 
 -- the reader's numbers are 1 to 8
 pub read-numbers : (file : List ℕ) (n : ℕ) → readJob file ≡ refused n → (1 ≤ n) × (n ≤ 8)

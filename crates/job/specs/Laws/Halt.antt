@@ -18,9 +18,9 @@ use Rattle.job.specs.Job.{Job, blank}
 use Rattle.job.specs.Record.{Kind, rack, step, link, end, kindOf, bodyLength, added}
 use Rattle.job.specs.Read.{Answer, accepted, refused, after, records, readJob}
 use Rattle.job.specs.Write.{roomFor}
-use Rattle.job.specs.Cause.{Cause, cut, unknown, misplaced, out-of-range, too-many, bad-ends, not-above, bytes-after}
+use Rattle.job.specs.Cause.{Cause, Fits, Reached, start, next, cut, unknown, misplaced, out-of-range, too-many, bad-ends, not-above, bytes-after}
 use Rattle.job.specs.Laws.Judged.{skip, whole}
-use Rattle.job.specs.Laws.Turn.{Fits, Reads, no-more, halted, past, closed, reads}
+use Rattle.job.specs.Laws.Turn.{Reads, no-more, halted, past, closed, reads}
 use Rattle.job.specs.Laws.Lists.{at-place}
 use Rattle.job.specs.Laws.Tests.{never}
 
@@ -37,12 +37,6 @@ pub onward : (b : ℕ) (rest : List ℕ) (j : Job) (k : Kind) → kindOf b ≡ s
 unfolding records
 onward b rest j k e h f = rw e (whole k rest j (records rest) (f .placed) (f .room) (f .whole)
     ∙ simp (f .ranges, f .ends, f .order) (passed k rest j (records rest) h ∙ skip rest (bodyLength k) (added j k rest)))
-
--- the reader comes to this place of the file with this job so far, past records without trouble
-pub data Reached (file : List ℕ) : ℕ → Job → Type 0 where
-  start : Reached file 0 blank
-  next : {at : ℕ} {j : Job} (k : Kind) → Reached file at j → at < length file → kindOf (getD file at 0) ≡ some k → 1 ≤ bodyLength k →
-      Fits (drop (suc at) file) j k → Reached file (suc at + bodyLength k) (added j k (drop (suc at) file))
 
 pub reached-answer : (file : List ℕ) {at : ℕ} {j : Job} → Reached file at j → readJob file ≡ records (drop at file) 0 j
 unfolding readJob

@@ -10,7 +10,8 @@ use lib.ListN.{length, length-append}
 use Rattle.job.specs.Job.{Edge, Job, blank}
 use Rattle.job.specs.Record.{Kind, rack, step, link, end, durationIn, edgeIn, empty, noRack, stands, full, platformInRange, durationInRange, countInRange, inRange, joins, endsRight, inOrder, added}
 use Rattle.job.specs.Read.{Answer, accepted}
-use Rattle.job.specs.Laws.Turn.{Fits, Reads, no-more, halted, past, closed}
+use Rattle.job.specs.Cause.{Fits}
+use Rattle.job.specs.Laws.Turn.{Reads, no-more, halted, past, closed}
 use Rattle.job.specs.Laws.Lists.{Each, each-more, Rising, rising-more}
 use Rattle.job.specs.Laws.Tests.{never, both, platform-facts}
 

@@ -56,6 +56,13 @@ number step = refl
 number link = refl
 number end = refl
 
+pub kind-byte : (b : ℕ) (k : Kind) → kindOf b ≡ some k → b ≡ kindByte k
+kind-byte b k h = go b (kindOf b) (kind-at b) h
+  where
+    go : (b : ℕ) (o : Option Kind) → KindAt b o → o ≡ some k → b ≡ kindByte k
+    go b o (known i) h = let z : i ≡ k = cc in ap kindByte z
+    go b o (strange e) h = cc
+
 -- no kind of this byte may stand after j
 pub misplaced-at : (b : ℕ) (rest : List ℕ) (j : Job) (more : ℕ → Job → Answer) → ((k : Kind) → b ≡ kindByte k → stands j k ≡ false) →
     judged (kindOf b) rest j more ≡ refused (misplacedNumber b)

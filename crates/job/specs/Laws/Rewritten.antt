@@ -16,11 +16,13 @@ use Rattle.job.specs.Job.{Edge, Job, blank}
 use Rattle.job.specs.Record.{Kind, rack, step, link, end, bodyLength, noRack, stands, inRange, added, platformIn, durationIn, edgeIn}
 use Rattle.job.specs.Read.{Answer, accepted, readJob}
 use Rattle.job.specs.Write.{rackBytes, stepBytes, linkBytes, fileOf, fileLength, roomFor, writeAnswer, writeOut}
+use Rattle.job.specs.Cause.{Fits}
 use Rattle.job.specs.Pass.{jobOf}
 use Rattle.job.specs.Laws.Number.{Bytes, none, more, bytes-number}
 use Rattle.job.specs.Laws.Tests.{never, both, platform-facts}
 use Rattle.job.specs.Laws.Written.{file-size}
-use Rattle.job.specs.Laws.Turn.{Fits, code, kind-code, Reads, no-more, halted, past, closed, reads}
+use Rattle.job.specs.Laws.Kinds.{kindByte, kind-byte}
+use Rattle.job.specs.Laws.Turn.{Reads, no-more, halted, past, closed, reads}
 
 -- the job so far, and the bytes that it was read from
 data Reached : Job → List ℕ → Type 0 where
@@ -66,7 +68,7 @@ flatMap-more f (y ∷ xs) x = rw (flatMap-more f xs x) (sym (append-assoc (f y) 
 
 -- one record more
 grown : (k : Kind) (rest : List ℕ) (j : Job) (bs : List ℕ) → 1 ≤ bodyLength k → Bytes rest → Fits rest j k → Reached j bs →
-    Reached (added j k rest) (bs ++ (code k ∷ take (bodyLength k) rest))
+    Reached (added j k rest) (bs ++ (kindByte k ∷ take (bodyLength k) rest))
 unfolding bodyLength added stands noRack inRange blank flatMap
 grown rack rest j bs h b f start =
     let p : Platform = platformIn rest in
@@ -99,11 +101,11 @@ whole-file no-more i e b bs r = let z : false ≡ true = cc in never z
 whole-file (halted c) i e b bs r = let z : false ≡ true = cc in never z
 whole-file (past {b = x} {rest = rest} {j = j} k q h f t) i e (more l b) bs r =
     let n : ℕ = bodyLength k in
-    let w : bs ++ (code k ∷ take n rest) ++ drop n rest ≡ fileOf i = whole-file t i e (bytes-drop n rest b) (bs ++ (code k ∷ take n rest)) (grown k rest j bs h b f r) in
-    rw (kind-code x k q) (rw (append-assoc bs (code k ∷ take n rest) (drop n rest), take-append-drop n rest) at w)
+    let w : bs ++ (kindByte k ∷ take n rest) ++ drop n rest ≡ fileOf i = whole-file t i e (bytes-drop n rest b) (bs ++ (kindByte k ∷ take n rest)) (grown k rest j bs h b f r) in
+    rw (kind-byte x k q) (rw (append-assoc bs (kindByte k ∷ take n rest) (drop n rest), take-append-drop n rest) at w)
 whole-file (closed {b = x} {rest = rest} {j = j} q f z) i e b bs r =
     let y : j ≡ i = cc in
-    rw (kind-code x end q, z, ← y) (closes j bs (f .placed) r)
+    rw (kind-byte x end q, z, ← y) (closes j bs (f .placed) r)
 
 -- an accepted file is the file of its job
 pub same-file : (file : List ℕ) (j : Job) → Bytes file → readJob file ≡ accepted j → fileOf j ≡ file

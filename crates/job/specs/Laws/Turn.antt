@@ -1,28 +1,19 @@
 -- The judgement of one record as a view (`turn`: it halts with a cause, goes on past a body, or is the end), and of a
 -- whole file as the chain of these turns (`reads`). Theorems on the reader are inductions on `Reads`, and open no test.
 use mathlib.Core.Bool.{Bool, true, false, not}
-use mathlib.Core.Path.{_≡_, refl, ap, _∙_}
+use mathlib.Core.Path.{_≡_, refl}
 use mathlib.Core.List.{List, [], _∷_}
 use mathlib.Core.Option.{Option, none, some}
 use Prim.Native.Nat.{ℕ, zero, suc, _≤_}
 use native.Mathlib.Omega.{arith}
-use borrow.Author.Tests.{ltb-true, ltb-false, eqb-true}
-use lib.Dec.{ltb, eqb}
+use borrow.Author.Tests.{ltb-true, ltb-false}
+use lib.Dec.{ltb}
 use lib.ListN.{length, drop}
 use Rattle.job.specs.Number.{pick}
 use Rattle.job.specs.Job.{Job}
 use Rattle.job.specs.Record.{Kind, rack, step, link, end, kindOf, bodyLength, stands, full, inRange, endsRight, inOrder, added}
 use Rattle.job.specs.Read.{Answer, accepted, refused, after, judged, records}
-use Rattle.job.specs.Cause.{Cause, cut, unknown, misplaced, out-of-range, too-many, bad-ends, not-above, bytes-after}
-
--- a record of kind k without trouble, with `rest` after its kind byte, after the job so far
-pub record Fits (rest : List ℕ) (j : Job) (k : Kind) : Type 0 where
-  pub placed : stands j k ≡ true
-  pub room : full j k ≡ false
-  pub whole : bodyLength k ≤ length rest
-  pub ranges : inRange k rest ≡ true
-  pub ends : endsRight j k rest ≡ true
-  pub order : inOrder j k rest ≡ true
+use Rattle.job.specs.Cause.{Cause, Fits, cut, unknown, misplaced, out-of-range, too-many, bad-ends, not-above, bytes-after}
 
 -- the answer to a record: refused with its cause, left to what follows the body, or the job accepted at the end record
 pub data Turn (rest : List ℕ) (j : Job) (more : ℕ → Job → Answer) : Option Kind → Answer → Type 0 where
@@ -54,25 +45,6 @@ turn (some k) rest j more = go (stands j k) (full j k) (ltb (length rest) (bodyL
     go true false false true true false hs hf hl hr he ho = halts (not-above ho)
     go true false false true true true hs hf hl hr he ho =
         fitted k rest j more (record { placed = hs; room = hf; whole = ltb-false _ _ hl; ranges = hr; ends = he; order = ho })
-
--- the byte of a kind
-abbrev pub code : Kind → ℕ
-code rack = 1
-code step = 2
-code link = 3
-code end = 4
-
-pub kind-code : (b : ℕ) (k : Kind) → kindOf b ≡ some k → b ≡ code k
-unfolding kindOf
-kind-code b k h = go (eqb b 1) (eqb b 2) (eqb b 3) (eqb b 4) refl refl refl refl h
-  where
-    go : (p q r s : Bool) → eqb b 1 ≡ p → eqb b 2 ≡ q → eqb b 3 ≡ r → eqb b 4 ≡ s →
-        pick p (some rack) (pick q (some step) (pick r (some link) (pick s (some end) none))) ≡ some k → b ≡ code k
-    go true q r s hp hq hr hs h = let z : rack ≡ k = cc in eqb-true b 1 hp ∙ ap code z
-    go false true r s hp hq hr hs h = let z : step ≡ k = cc in eqb-true b 2 hq ∙ ap code z
-    go false false true s hp hq hr hs h = let z : link ≡ k = cc in eqb-true b 3 hr ∙ ap code z
-    go false false false true hp hq hr hs h = let z : end ≡ k = cc in eqb-true b 4 hs ∙ ap code z
-    go false false false false hp hq hr hs h = cc
 
 -- the answer to the bytes that are left, after the job so far
 pub data Reads : List ℕ → Job → Answer → Type 0 where
