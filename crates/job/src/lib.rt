@@ -120,9 +120,9 @@ pub fn write<'a>(
     if 1024 < edges {
         return Written::Refused(5);
     }
-    let trouble = emit::job_trouble(platform, tasks, edges, durations, from, to, counts);
-    if trouble != 0 {
-        return Written::Refused(trouble);
+    let number = emit::job_trouble(platform, tasks, edges, durations, from, to, counts);
+    if number != 0 {
+        return Written::Refused(number);
     }
     let length = 5 + 5 * (tasks + edges);
     if out.len() < length {
