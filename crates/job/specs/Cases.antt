@@ -1,13 +1,12 @@
 -- The small inputs of document 01's refusal table, and the file of its worked case A, held to the definition of the reader by computing it.
-use mathlib.Core.Bool.{Bool, true, false, _&&_}
+use mathlib.Core.Bool.{Bool, true, _&&_}
 use mathlib.Core.Path.{_≡_, refl}
 use mathlib.Core.List.{List, [], _∷_, _++_, flatMap}
-use mathlib.Core.Option.{Option, none, some}
 use Prim.Native.Nat.{ℕ}
 use lib.Dec.{eqb}
 use lib.ListN.{replicate}
 use Rattle.job.specs.Number.{number}
-use Rattle.job.specs.Job.{Edge, Job, blank}
+use Rattle.job.specs.Job.{blank}
 use Rattle.job.specs.Record.{kindOf, bodyLength, platformIn, durationIn, edgeIn, noRack, stands, full, platformInRange, durationInRange, countInRange, inRange, joins, endsRight, rises, aboveLast, inOrder, added}
 use Rattle.job.specs.Read.{Answer, accepted, refused, after, judged, records, readJob}
 

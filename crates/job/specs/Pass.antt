@@ -1,6 +1,6 @@
 -- What the private functions promise one another: a pass over one kind of record, and the trouble of one link.
 -- A reader of the public contracts needs nothing of this file.
-use mathlib.Core.Bool.{Bool, true, false, not, _&&_}
+use mathlib.Core.Bool.{not, _&&_}
 use mathlib.Core.Path.{_≡_}
 use mathlib.Core.List.{List, [], _∷_}
 use Prim.Native.Nat.{ℕ, _+_, _*_, _-_, _≤_, _<_}

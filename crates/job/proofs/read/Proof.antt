@@ -1,9 +1,8 @@
 -- `read`: each return is the answer after the passes so far; the last record is judged here.
-use mathlib.Core.Bool.{true, false}
+use mathlib.Core.Bool.{false}
 use mathlib.Core.Path.{_≡_, refl, ap, sym, _∙_}
-use mathlib.Core.List.{List, [], _∷_, _++_, map}
+use mathlib.Core.List.{List, [], map}
 use Prim.Native.Nat.{ℕ, zero, suc, _+_, _*_, _-_, _≤_, _<_}
-use native.Mathlib.Numerals.{add-one}
 use native.Mathlib.Omega.{arith}
 use borrow.Author.Needs.{needs, zero≤}
 use borrow.Author.Tests.{le-ltb, ne-eqb}
@@ -28,14 +27,6 @@ use Rattle.job.specs.Laws.Values.{length-values, map-values, values-same
 use borrow.Author.Needs.{needs}
 use Rattle.job.proofs.read.Statement.{statement}
 use Rattle.job.proofs.read.Tie as tie
-use Rattle.job.proofs.read.Reads as reads
-use Rattle.job.proofs.read.Lts as lts
-use Rattle.job.proofs.parse.links.Reads as links-reads
-use Rattle.job.proofs.parse.misplaced.Reads as misplaced-reads
-use Rattle.job.proofs.parse.rack.Reads as rack-reads
-use Rattle.job.proofs.parse.steps.Reads as steps-reads
-use Rattle.job.proofs.parse.trouble.Reads as trouble-reads
-use Rattle.job.proofs.refusal.Reads as refusal-reads
 
 -- a refusal, in any of its cases
 refuse : (file : List ℕ) (n : ℕ) (r : Reading) → r ≡ readingOf (refused n) → readJob file ≡ refused n → r ≡ readingOf (readJob file)

@@ -3,8 +3,6 @@ use mathlib.Core.Path.{refl}
 use Rattle.job.specs.Read.{readingOf, padded}
 use Rattle.job.proofs.refusal.Statement.{statement}
 use Rattle.job.proofs.refusal.Tie as tie
-use Rattle.job.proofs.refusal.Reads as reads
-use Rattle.job.proofs.refusal.Lts as lts
 
 returns : tie.Need-returns
 unfolding readingOf padded

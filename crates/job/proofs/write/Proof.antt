@@ -1,5 +1,5 @@
 -- `write`: a refusal is the count's, the reader's to the job's file, or the room's; what is stored is the file.
-use mathlib.Core.Path.{_≡_, refl, ap, sym, _∙_}
+use mathlib.Core.Path.{_≡_, sym, _∙_}
 use mathlib.Core.List.{List, _++_}
 use Prim.Native.Nat.{ℕ, _≤_, _<_}
 use borrow.Author.Needs.{needs}
@@ -16,10 +16,6 @@ use Rattle.job.specs.Laws.Stored.{sets-front}
 use Rattle.job.specs.Laws.Written.{file-size}
 use Rattle.job.proofs.write.Statement.{statement}
 use Rattle.job.proofs.write.Tie as tie
-use Rattle.job.proofs.write.Reads as reads
-use Rattle.job.proofs.write.Lts as lts
-use Rattle.job.proofs.emit.job_trouble.Reads as job-trouble-reads
-use Rattle.job.proofs.emit.put_job.Reads as put-job-reads
 
 -- what a call returns and leaves, where its answer is known
 refuse : (m l n : ℕ) (j : Job) (out : List ℕ) → writeAnswer m l j out ≡ Refused n → WrittenAs (Refused n) out m l j out

@@ -1,8 +1,8 @@
 -- One record: what the judgement of it comes to.
-use mathlib.Core.Bool.{Bool, true, false, not, _&&_, _||_}
+use mathlib.Core.Bool.{Bool, true, false, not, _&&_}
 use mathlib.Core.Path.{_≡_, refl, ap, _∙_, sym}
 use mathlib.Core.List.{List, [], _∷_, _++_}
-use mathlib.Core.Option.{Option, none, some}
+use mathlib.Core.Option.{none, some}
 use Prim.Native.Nat.{ℕ, zero, suc, _+_, _*_, _<_, _≤_}
 use mathlib.Core.Logic.{⊎-elim}
 use native.Mathlib.Omega.{arith}
@@ -13,8 +13,8 @@ use lib.Seq.{drop-cons, drop-drop}
 use Rattle.job.specs.declared.Platform.{Platform}
 use Rattle.job.specs.Number.{pick}
 use Rattle.job.specs.Job.{Edge, Job, blank}
-use Rattle.job.specs.Record.{Kind, rack, step, link, end, kindOf, bodyLength, empty, noRack, stands, full, inRange, endsRight, inOrder, added, platformIn, durationIn, edgeIn, joins, countInRange, platformInRange, durationInRange, rises, aboveLast}
-use Rattle.job.specs.Read.{Answer, accepted, refused, after, judged, records}
+use Rattle.job.specs.Record.{Kind, rack, step, link, kindOf, bodyLength, noRack, stands, full, inRange, endsRight, inOrder, added, platformIn, durationIn, edgeIn, joins, countInRange, platformInRange, durationInRange, rises, aboveLast}
+use Rattle.job.specs.Read.{Answer, refused, after, judged, records}
 use Rattle.job.specs.Laws.Number.{lt-or-ge}
 use Rattle.job.specs.Pass.{jobOf, key, platformTrouble, stepTrouble, linkTrouble}
 

@@ -1,7 +1,7 @@
 -- `emit::job_trouble`: the reader meets the job's file record by record; each trouble is what it answers there.
 use mathlib.Core.Path.{_≡_, refl, ap, sym, _∙_}
 use mathlib.Core.List.{List, [], _∷_, _++_, flatMap}
-use Prim.Native.Nat.{ℕ, zero, suc, _+_, _^_, _≤_, _<_}
+use Prim.Native.Nat.{ℕ, zero, suc, _^_, _≤_, _<_}
 use native.Mathlib.Omega.{arith}
 use lib.ListN.{length, getD}
 use mir.Syntax.{w8, w16, w32}
@@ -17,11 +17,6 @@ use Rattle.job.specs.Laws.Values.{length-values, each-value}
 use borrow.Author.Needs.{needs}
 use Rattle.job.proofs.emit.job_trouble.Statement.{statement}
 use Rattle.job.proofs.emit.job_trouble.Tie as tie
-use Rattle.job.proofs.emit.job_trouble.Reads as reads
-use Rattle.job.proofs.emit.job_trouble.Lts as lts
-use Rattle.job.proofs.emit.links_trouble.Reads as links-trouble-reads
-use Rattle.job.proofs.emit.steps_trouble.Reads as steps-trouble-reads
-use Rattle.job.proofs.record.platform_trouble.Reads as platform-trouble-reads
 
 bad : (j : Job) (r : ℕ) → (r ≡ 0 → ⊥) → readJob (fileOf j) ≡ refused r → JobJudged j r
 bad j r n e = record { refuses = λ z. e; accepts = λ z. absurd (n z) }

@@ -1,7 +1,7 @@
 -- `emit::links_trouble`: what is left of the row, after the last key, has the trouble of the whole, as long as none was met.
-use mathlib.Core.Path.{_≡_, refl, ap, sym, _∙_}
+use mathlib.Core.Path.{_≡_, sym, _∙_}
 use mathlib.Core.List.{List}
-use Prim.Native.Nat.{ℕ, zero, suc, _+_, _*_, _-_, _≤_, _<_}
+use Prim.Native.Nat.{ℕ, suc, _+_, _*_, _-_, _≤_, _<_}
 use native.Mathlib.Numerals.{add-one}
 use native.Mathlib.Omega.{arith}
 use borrow.Author.Needs.{needs}
@@ -12,10 +12,6 @@ use Rattle.job.specs.Write.{values, edgeHeld}
 use Rattle.job.specs.Pass.{edge, key, linkTrouble, linksTrouble}
 use Rattle.job.proofs.emit.links_trouble.Statement.{statement}
 use Rattle.job.proofs.emit.links_trouble.Tie as tie
-use Rattle.job.proofs.emit.links_trouble.Reads as reads
-use Rattle.job.proofs.emit.links_trouble.Lts as lts
-use Rattle.job.proofs.record.key.Reads as key-reads
-use Rattle.job.proofs.record.link_trouble.Reads as link-trouble-reads
 
 module _ (from to counts : List ℕ) (m l i least : ℕ) where
   left : List Edge

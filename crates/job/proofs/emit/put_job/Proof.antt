@@ -1,5 +1,5 @@
 -- `emit::put_job`: the stores of the parts follow on each other, and so are the stores of the file.
-use mathlib.Core.Path.{_≡_, refl, ap, sym, _∙_}
+use mathlib.Core.Path.{_≡_, ap, sym, _∙_}
 use mathlib.Core.List.{List, [], _∷_, _++_, flatMap}
 use Prim.Native.Nat.{ℕ, _+_, _*_}
 use lib.ListN.{length, getD, set, length-set}
@@ -12,11 +12,6 @@ use Rattle.job.specs.Laws.Values.{length-values}
 use Rattle.job.specs.Laws.Stored.{step-size, link-size, flat-size, sets-append}
 use Rattle.job.proofs.emit.put_job.Statement.{statement}
 use Rattle.job.proofs.emit.put_job.Tie as tie
-use Rattle.job.proofs.emit.put_job.Reads as reads
-use Rattle.job.proofs.emit.put_job.Lts as lts
-use Rattle.job.proofs.emit.put_links.Reads as put-links-reads
-use Rattle.job.proofs.emit.put_rack.Reads as put-rack-reads
-use Rattle.job.proofs.emit.put_steps.Reads as put-steps-reads
 
 module _ (p : Platform) (m l : ℕ) (durations from to counts : List ℕ) where
   abbrev tasks : List ℕ

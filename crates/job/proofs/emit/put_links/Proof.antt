@@ -1,18 +1,15 @@
 -- `emit::put_links`: the links put so far are stores one after the other.
-use mathlib.Core.Path.{_≡_, refl, ap, sym, _∙_}
+use mathlib.Core.Path.{_≡_, refl, _∙_}
 use mathlib.Core.List.{flatMap}
-use Prim.Native.Nat.{ℕ, _+_, _*_, _-_, _≤_, _<_}
+use Prim.Native.Nat.{_+_, _*_, _-_, _≤_}
 use native.Mathlib.Omega.{arith}
 use borrow.Author.Needs.{needs}
-use lib.ListN.{length, getD}
-use lib.Seq.{sets, length-sets}
+use lib.ListN.{length}
+use lib.Seq.{sets}
 use Rattle.job.specs.Write.{values, edgeHeld, linkBytes}
 use Rattle.job.specs.Laws.Stored.{link-size, store-more}
 use Rattle.job.proofs.emit.put_links.Statement.{statement}
 use Rattle.job.proofs.emit.put_links.Tie as tie
-use Rattle.job.proofs.emit.put_links.Reads as reads
-use Rattle.job.proofs.emit.put_links.Lts as lts
-use Rattle.job.proofs.emit.put_link.Reads as put-link-reads
 
 abbrev Inv-loop : tie.InvT-loop
 Inv-loop edges from to counts out₀ at i₀ out i =

@@ -5,8 +5,6 @@ use Rattle.job.specs.Write.{rackBytes}
 use borrow.Author.Needs.{needs}
 use Rattle.job.proofs.emit.put_rack.Statement.{statement}
 use Rattle.job.proofs.emit.put_rack.Tie as tie
-use Rattle.job.proofs.emit.put_rack.Reads as reads
-use Rattle.job.proofs.emit.put_rack.Lts as lts
 
 slice-write-out : tie.Need-slice-write-out
 slice-write-out c = search needs

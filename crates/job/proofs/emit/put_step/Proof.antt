@@ -6,8 +6,6 @@ use Rattle.job.specs.Number.{bytes}
 use borrow.Author.Needs.{needs}
 use Rattle.job.proofs.emit.put_step.Statement.{statement}
 use Rattle.job.proofs.emit.put_step.Tie as tie
-use Rattle.job.proofs.emit.put_step.Reads as reads
-use Rattle.job.proofs.emit.put_step.Lts as lts
 
 slice-write-out : tie.Need-slice-write-out
 slice-write-out c = search needs

@@ -1,18 +1,15 @@
 -- `emit::put_steps`: the steps put so far are stores one after the other.
-use mathlib.Core.Path.{_≡_, refl, ap, sym, _∙_}
+use mathlib.Core.Path.{_≡_, refl, _∙_}
 use mathlib.Core.List.{flatMap}
-use Prim.Native.Nat.{ℕ, _+_, _*_, _-_, _≤_, _<_}
+use Prim.Native.Nat.{_+_, _*_, _-_, _≤_}
 use native.Mathlib.Omega.{arith}
 use borrow.Author.Needs.{needs}
 use lib.ListN.{length, getD}
-use lib.Seq.{sets, length-sets}
+use lib.Seq.{sets}
 use Rattle.job.specs.Write.{values, stepBytes}
 use Rattle.job.specs.Laws.Stored.{step-size, store-more}
 use Rattle.job.proofs.emit.put_steps.Statement.{statement}
 use Rattle.job.proofs.emit.put_steps.Tie as tie
-use Rattle.job.proofs.emit.put_steps.Reads as reads
-use Rattle.job.proofs.emit.put_steps.Lts as lts
-use Rattle.job.proofs.emit.put_step.Reads as put-step-reads
 
 abbrev Inv-loop : tie.InvT-loop
 Inv-loop durations tasks out₀ i₀ out i =

@@ -1,6 +1,6 @@
 -- `emit::steps_trouble`: what is left of the row has the trouble of the whole, as long as none was met.
-use mathlib.Core.Path.{_≡_, refl, ap, sym, _∙_}
-use Prim.Native.Nat.{ℕ, zero, suc, _+_, _-_, _≤_, _<_}
+use mathlib.Core.Path.{_≡_, sym, _∙_}
+use Prim.Native.Nat.{ℕ, suc, _+_, _-_, _≤_, _<_}
 use native.Mathlib.Numerals.{add-one}
 use native.Mathlib.Omega.{arith}
 use borrow.Author.Needs.{needs}
@@ -10,9 +10,6 @@ use Rattle.job.specs.Write.{values}
 use Rattle.job.specs.Pass.{stepTrouble, stepsTrouble}
 use Rattle.job.proofs.emit.steps_trouble.Statement.{statement}
 use Rattle.job.proofs.emit.steps_trouble.Tie as tie
-use Rattle.job.proofs.emit.steps_trouble.Reads as reads
-use Rattle.job.proofs.emit.steps_trouble.Lts as lts
-use Rattle.job.proofs.record.step_trouble.Reads as step-trouble-reads
 
 module _ (f : ℕ → ℕ) (m i : ℕ) where
   none-left : m ≤ i → stepsTrouble (values f i (m - i)) ≡ 0

@@ -20,11 +20,6 @@ use Rattle.job.specs.Laws.Spare.{spare-set}
 use Rattle.job.specs.Laws.Values.{length-values, edges-set}
 use Rattle.job.proofs.parse.links.Statement.{statement}
 use Rattle.job.proofs.parse.links.Tie as tie
-use Rattle.job.proofs.parse.links.Reads as reads
-use Rattle.job.proofs.parse.links.Lts as lts
-use Rattle.job.proofs.record.key.Reads as key-reads
-use Rattle.job.proofs.record.link_trouble.Reads as link-trouble-reads
-use Rattle.job.proofs.record.number2.Reads as number2-reads
 
 -- l links stand in the file up to byte `at` and in the arrays, whose other places are 0; the answer is that to the rest after them
 record Going (file from to counts : List ℕ) (m l at least : ℕ) : Type 0 where

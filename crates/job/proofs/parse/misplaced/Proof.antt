@@ -3,8 +3,6 @@ use Rattle.job.specs.Pass.{misplacedNumber}
 use borrow.Author.Tests.{le-leb, lt-leb}
 use Rattle.job.proofs.parse.misplaced.Statement.{statement}
 use Rattle.job.proofs.parse.misplaced.Tie as tie
-use Rattle.job.proofs.parse.misplaced.Reads as reads
-use Rattle.job.proofs.parse.misplaced.Lts as lts
 
 returns : tie.Need-returns
 unfolding misplacedNumber

@@ -1,5 +1,5 @@
 -- `parse::rack`: the file's first record, as the judgement of one record has it after nothing.
-use mathlib.Core.Bool.{true, false}
+use mathlib.Core.Bool.{false}
 use mathlib.Core.Path.{_≡_, refl, ap, sym, _∙_}
 use mathlib.Core.List.{List, []}
 use Prim.Native.Nat.{ℕ, _≤_, _<_}
@@ -15,10 +15,6 @@ use Rattle.job.specs.Laws.Kinds.{kindByte, misplaced-at, misplaced-some}
 use borrow.Author.Needs.{needs}
 use Rattle.job.proofs.parse.rack.Statement.{statement}
 use Rattle.job.proofs.parse.rack.Tie as tie
-use Rattle.job.proofs.parse.rack.Reads as reads
-use Rattle.job.proofs.parse.rack.Lts as lts
-use Rattle.job.proofs.parse.misplaced.Reads as misplaced-reads
-use Rattle.job.proofs.record.platform_trouble.Reads as platform-trouble-reads
 
 -- a refusal, in any of its cases
 refuse : (file : List ℕ) (n : ℕ) → (n ≡ 0 → ⊥) → readJob file ≡ refused n → RackPassed file n

@@ -18,10 +18,6 @@ use Rattle.job.specs.Laws.Judged.{at-record, at-end, passOr, passes, sto
 use Rattle.job.specs.Laws.Spare.{spare-set, take-set}
 use Rattle.job.proofs.parse.steps.Statement.{statement}
 use Rattle.job.proofs.parse.steps.Tie as tie
-use Rattle.job.proofs.parse.steps.Reads as reads
-use Rattle.job.proofs.parse.steps.Lts as lts
-use Rattle.job.proofs.record.number4.Reads as number4-reads
-use Rattle.job.proofs.record.step_trouble.Reads as step-trouble-reads
 
 -- m steps stand in the file up to byte `at` and in the array, whose other places are 0; the answer is that to the rest after them
 record Going (file durations : List ℕ) (m at : ℕ) : Type 0 where

@@ -1,5 +1,5 @@
 -- `record::link_trouble`: each return is one case of the definition, in plain numbers.
-use mathlib.Core.Path.{_≡_, refl}
+use mathlib.Core.Path.{_≡_}
 use Prim.Native.Nat.{ℕ, _+_, _*_, _<_, _≤_}
 use native.Mathlib.Omega.{arith}
 use borrow.Author.Tests.{lt-ltb, le-ltb, le-leb, lt-leb}
@@ -8,9 +8,6 @@ use Rattle.job.specs.Pass.{edge, key, linkTrouble}
 use borrow.Author.Needs.{needs}
 use Rattle.job.proofs.record.link_trouble.Statement.{statement}
 use Rattle.job.proofs.record.link_trouble.Tie as tie
-use Rattle.job.proofs.record.link_trouble.Reads as reads
-use Rattle.job.proofs.record.link_trouble.Lts as lts
-use Rattle.job.proofs.record.key.Reads as key-reads
 
 module _ (m least f t n : ℕ) where
   low : n < 1 → 4 ≡ linkTrouble m least (edge f t n)

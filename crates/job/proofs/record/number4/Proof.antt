@@ -5,9 +5,6 @@ use Rattle.job.specs.Laws.Number.{number-4}
 use borrow.Author.Needs.{needs}
 use Rattle.job.proofs.record.number4.Statement.{statement}
 use Rattle.job.proofs.record.number4.Tie as tie
-use Rattle.job.proofs.record.number4.Reads as reads
-use Rattle.job.proofs.record.number4.Lts as lts
-use Rattle.job.proofs.record.wide.Reads as wide-reads
 
 shared-slice-read-wide : tie.Need-shared-slice-read-wide
 shared-slice-read-wide c = search needs

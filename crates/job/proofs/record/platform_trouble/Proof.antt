@@ -1,11 +1,9 @@
 -- `record::platform_trouble`: each return rewrites with the tests that led there.
-use Rattle.job.specs.Record.{platformInRange, durationInRange}
-use Rattle.job.specs.Pass.{platformTrouble, stepTrouble}
+use Rattle.job.specs.Record.{platformInRange}
+use Rattle.job.specs.Pass.{platformTrouble}
 use borrow.Author.Tests.{le-leb, lt-leb}
 use Rattle.job.proofs.record.platform_trouble.Statement.{statement}
 use Rattle.job.proofs.record.platform_trouble.Tie as tie
-use Rattle.job.proofs.record.platform_trouble.Reads as reads
-use Rattle.job.proofs.record.platform_trouble.Lts as lts
 
 returns : tie.Need-returns
 unfolding platformTrouble platformInRange

@@ -1,11 +1,9 @@
 -- `record::step_trouble`: each return rewrites with the tests that led there.
-use Rattle.job.specs.Record.{platformInRange, durationInRange}
-use Rattle.job.specs.Pass.{platformTrouble, stepTrouble}
+use Rattle.job.specs.Record.{durationInRange}
+use Rattle.job.specs.Pass.{stepTrouble}
 use borrow.Author.Tests.{le-leb, lt-leb}
 use Rattle.job.proofs.record.step_trouble.Statement.{statement}
 use Rattle.job.proofs.record.step_trouble.Tie as tie
-use Rattle.job.proofs.record.step_trouble.Reads as reads
-use Rattle.job.proofs.record.step_trouble.Lts as lts
 
 returns : tie.Need-returns
 unfolding stepTrouble durationInRange
