@@ -155,7 +155,10 @@ shared-slice-read-t20 : tie.Need-shared-slice-read-t20
 shared-slice-read-t20 c = omega (arith, c .before .before .before .before .rack .ensures .whole (c .before .before .before .if1 .left))
 
 steps-requires : tie.Need-steps-requires
-steps-requires c κs = (c .before .before .before .before .before .rack .ensures .whole (c .before .before .before .before .if1 .left), refl)
+steps-requires c κs =
+    let at-if1 = c .before .before .before .before in
+    let at-rack = at-if1 .before in
+    (at-rack .rack .ensures .whole (at-if1 .if1 .left), refl)
 
 enum-known-steps : tie.Need-enum-known-steps
 enum-known-steps c = search needs
@@ -170,10 +173,17 @@ refusal-requires-2 : tie.Need-refusal-requires-2
 refusal-requires-2 c κs = search needs
 
 returns-2 : tie.Need-returns-2
-returns-2 c = refuse _ _ _ (c .refusal2 .ensures) (bad-step _ (c .before .before .before .before .before .before .before .before .before .before .rack .ensures .some-processor (c .before .before .before .before .before .before .before .before .before .if1 .left)) (c .before .before .before .before .before .before .before .before .before .before .rack .ensures .goes-on (c .before .before .before .before .before .before .before .before .before .if1 .left)) _ _ _ _ (c .before .before .enum-told .given .1) (c .before .trouble .ensures) (c .before .before .before .before .steps .ensures))
+returns-2 c =
+    let at-steps = c .before .before .before .before in
+    let at-if1 = at-steps .before .before .before .before .before in
+    let at-rack = at-if1 .before in
+    refuse _ _ _ (c .refusal2 .ensures) (bad-step _ (at-rack .rack .ensures .some-processor (at-if1 .if1 .left)) (at-rack .rack .ensures .goes-on (at-if1 .if1 .left)) _ _ _ _ (c .before .before .enum-told .given .1) (c .before .trouble .ensures) (at-steps .steps .ensures))
 
 shared-slice-read-misplaced : tie.Need-shared-slice-read-misplaced
-shared-slice-read-misplaced c = let s = (rw (c .before .before .before .steps2 .given .1) at (c .before .before .before .before .before .steps .ensures)) in omega (arith, s .1)
+shared-slice-read-misplaced c =
+    let at-steps2 = c .before .before .before in
+    let at-steps = at-steps2 .before .before in
+    let s = (rw (at-steps2 .steps2 .given .1) at (at-steps .steps .ensures)) in omega (arith, s .1)
 
 misplaced-requires : tie.Need-misplaced-requires
 misplaced-requires c κs = search needs
@@ -182,10 +192,20 @@ refusal-requires-3 : tie.Need-refusal-requires-3
 refusal-requires-3 c κs = search needs
 
 returns-3 : tie.Need-returns-3
-returns-3 c = refuse _ _ _ (c .refusal3 .ensures) (no-step _ (c .before .before .before .before .before .before .before .before .before .before .before .before .before .rack .ensures .some-processor (c .before .before .before .before .before .before .before .before .before .before .before .before .if1 .left)) (c .before .before .before .before .before .before .before .before .before .before .before .before .before .rack .ensures .goes-on (c .before .before .before .before .before .before .before .before .before .before .before .before .if1 .left)) _ _ _ (c .before .before .before .if2 .taken) (rw (c .before .before .before .before .before .steps2 .given .1) at (c .before .before .before .before .before .before .before .steps .ensures)) (c .before .misplaced .ensures))
+returns-3 c =
+    let at-if2 = c .before .before .before in
+    let at-steps2 = at-if2 .before .before in
+    let at-steps = at-steps2 .before .before in
+    let at-if1 = at-steps .before .before .before .before .before in
+    let at-rack = at-if1 .before in
+    refuse _ _ _ (c .refusal3 .ensures) (no-step _ (at-rack .rack .ensures .some-processor (at-if1 .if1 .left)) (at-rack .rack .ensures .goes-on (at-if1 .if1 .left)) _ _ _ (at-if2 .if2 .taken) (rw (at-steps2 .steps2 .given .1) at (at-steps .steps .ensures)) (c .before .misplaced .ensures))
 
 links-requires : tie.Need-links-requires
-links-requires c κs = let s = (rw (c .before .before .before .before .before .steps2 .given .1) at (c .before .before .before .before .before .before .before .steps .ensures)) in ((some-task _ (c .before .before .before .if2 .left), s .0, omega (arith, s .1)), (refl, refl, refl))
+links-requires c κs =
+    let at-if2 = c .before .before .before in
+    let at-steps2 = at-if2 .before .before in
+    let at-steps = at-steps2 .before .before in
+    let s = (rw (at-steps2 .steps2 .given .1) at (at-steps .steps .ensures)) in ((some-task _ (at-if2 .if2 .left), s .0, omega (arith, s .1)), (refl, refl, refl))
 
 enum-known-links : tie.Need-enum-known-links
 enum-known-links c = search needs
@@ -200,19 +220,36 @@ refusal-requires-4 : tie.Need-refusal-requires-4
 refusal-requires-4 c κs = search needs
 
 returns-4 : tie.Need-returns-4
-returns-4 c = refuse _ _ _ (c .refusal4 .ensures) (bad-link _ (c .before .before .before .before .before .before .before .before .before .before .before .before .before .before .before .before .before .before .rack .ensures .some-processor (c .before .before .before .before .before .before .before .before .before .before .before .before .before .before .before .before .before .if1 .left)) (c .before .before .before .before .before .before .before .before .before .before .before .before .before .before .before .before .before .before .rack .ensures .goes-on (c .before .before .before .before .before .before .before .before .before .before .before .before .before .before .before .before .before .if1 .left)) _ _ (rw (c .before .before .before .before .before .before .before .before .before .before .steps2 .given .1) at (c .before .before .before .before .before .before .before .before .before .before .before .before .steps .ensures)) (c .before .before .before .before .before .before .before .before .if2 .left) _ _ _ _ _ _ (c .before .before .enum-told2 .given .1) (c .before .trouble2 .ensures) (c .before .before .before .before .links .ensures))
+returns-4 c =
+    let at-links = c .before .before .before .before in
+    let at-if2 = at-links .before .before .before .before in
+    let at-steps2 = at-if2 .before .before in
+    let at-steps = at-steps2 .before .before in
+    let at-if1 = at-steps .before .before .before .before .before in
+    let at-rack = at-if1 .before in
+    refuse _ _ _ (c .refusal4 .ensures) (bad-link _ (at-rack .rack .ensures .some-processor (at-if1 .if1 .left)) (at-rack .rack .ensures .goes-on (at-if1 .if1 .left)) _ _ (rw (at-steps2 .steps2 .given .1) at (at-steps .steps .ensures)) (at-if2 .if2 .left) _ _ _ _ _ _ (c .before .before .enum-told2 .given .1) (c .before .trouble2 .ensures) (at-links .links .ensures))
 
 mul-at : tie.Need-mul-at
-mul-at c = let s = (rw (c .before .before .before .before .before .before .before .before .before .steps2 .given .1) at (c .before .before .before .before .before .before .before .before .before .before .before .steps .ensures)) in omega (arith, s .0)
+mul-at c =
+    let at-steps2 = c .before .before .before .before .before .before .before .before .before in
+    let at-steps = at-steps2 .before .before in
+    let s = (rw (at-steps2 .steps2 .given .1) at (at-steps .steps .ensures)) in omega (arith, s .0)
 
 add-at : tie.Need-add-at
-add-at c = let s = (rw (c .before .before .before .before .before .before .before .before .before .steps2 .given .1) at (c .before .before .before .before .before .before .before .before .before .before .before .steps .ensures)) in omega (arith, s .0)
+add-at c =
+    let at-steps2 = c .before .before .before .before .before .before .before .before .before in
+    let at-steps = at-steps2 .before .before in
+    let s = (rw (at-steps2 .steps2 .given .1) at (at-steps .steps .ensures)) in omega (arith, s .0)
 
 mul-at-2 : tie.Need-mul-at-2
 mul-at-2 c = let x = (rw (c .before .links2 .given .1) at (c .before .before .before .links .ensures)) in omega (arith, x .0)
 
 add-at-2 : tie.Need-add-at-2
-add-at-2 c = let s = (rw (c .before .before .before .before .before .before .before .before .before .steps2 .given .1) at (c .before .before .before .before .before .before .before .before .before .before .before .steps .ensures)) in let x = (rw (c .before .links2 .given .1) at (c .before .before .before .links .ensures)) in omega (arith, s .0, x .0)
+add-at-2 c =
+    let at-links = c .before .before .before in
+    let at-steps2 = at-links .before .before .before .before .before .before in
+    let at-steps = at-steps2 .before .before in
+    let s = (rw (at-steps2 .steps2 .given .1) at (at-steps .steps .ensures)) in let x = (rw (c .before .links2 .given .1) at (at-links .links .ensures)) in omega (arith, s .0, x .0)
 
 shared-slice-read-kind-2 : tie.Need-shared-slice-read-kind-2
 shared-slice-read-kind-2 c = let x = (rw (c .before .before .links2 .given .1) at (c .before .before .before .before .links .ensures)) in x .1
@@ -224,19 +261,48 @@ refusal-requires-5 : tie.Need-refusal-requires-5
 refusal-requires-5 c κs = search needs
 
 returns-5 : tie.Need-returns-5
-returns-5 c = refuse _ _ _ (c .refusal5 .ensures) (not-end _ (c .before .before .before .before .before .before .before .before .before .before .before .before .before .before .before .before .before .before .before .before .before .rack .ensures .some-processor (c .before .before .before .before .before .before .before .before .before .before .before .before .before .before .before .before .before .before .before .before .if1 .left)) (c .before .before .before .before .before .before .before .before .before .before .before .before .before .before .before .before .before .before .before .before .before .rack .ensures .goes-on (c .before .before .before .before .before .before .before .before .before .before .before .before .before .before .before .before .before .before .before .before .if1 .left)) _ _ (rw (c .before .before .before .before .before .before .before .before .before .before .before .before .before .steps2 .given .1) at (c .before .before .before .before .before .before .before .before .before .before .before .before .before .before .before .steps .ensures)) (c .before .before .before .before .before .before .before .before .before .before .before .if2 .left) _ _ _ _ (rw (c .before .before .before .before .before .links2 .given .1) at (c .before .before .before .before .before .before .before .links .ensures)) _ _ refl (c .before .before .if3 .taken) (c .before .misplaced2 .ensures))
+returns-5 c =
+    let at-links2 = c .before .before .before .before .before in
+    let at-links = at-links2 .before .before in
+    let at-if2 = at-links .before .before .before .before in
+    let at-steps2 = at-if2 .before .before in
+    let at-steps = at-steps2 .before .before in
+    let at-if1 = at-steps .before .before .before .before .before in
+    let at-rack = at-if1 .before in
+    refuse _ _ _ (c .refusal5 .ensures) (not-end _ (at-rack .rack .ensures .some-processor (at-if1 .if1 .left)) (at-rack .rack .ensures .goes-on (at-if1 .if1 .left)) _ _ (rw (at-steps2 .steps2 .given .1) at (at-steps .steps .ensures)) (at-if2 .if2 .left) _ _ _ _ (rw (at-links2 .links2 .given .1) at (at-links .links .ensures)) _ _ refl (c .before .before .if3 .taken) (c .before .misplaced2 .ensures))
 
 add-if4 : tie.Need-add-if4
-add-if4 c = let s = (rw (c .before .before .before .before .before .before .before .before .before .before .before .steps2 .given .1) at (c .before .before .before .before .before .before .before .before .before .before .before .before .before .steps .ensures)) in let x = (rw (c .before .before .before .links2 .given .1) at (c .before .before .before .before .before .links .ensures)) in omega (arith, s .0, x .0)
+add-if4 c =
+    let at-links2 = c .before .before .before in
+    let at-links = at-links2 .before .before in
+    let at-steps2 = at-links .before .before .before .before .before .before in
+    let at-steps = at-steps2 .before .before in
+    let s = (rw (at-steps2 .steps2 .given .1) at (at-steps .steps .ensures)) in let x = (rw (at-links2 .links2 .given .1) at (at-links .links .ensures)) in omega (arith, s .0, x .0)
 
 refusal-requires-6 : tie.Need-refusal-requires-6
 refusal-requires-6 c κs = search needs
 
 returns-6 : tie.Need-returns-6
-returns-6 c = refuse _ _ _ (c .refusal6 .ensures) (more-bytes _ (c .before .before .before .before .before .before .before .before .before .before .before .before .before .before .before .before .before .before .before .before .before .rack .ensures .some-processor (c .before .before .before .before .before .before .before .before .before .before .before .before .before .before .before .before .before .before .before .before .if1 .left)) (c .before .before .before .before .before .before .before .before .before .before .before .before .before .before .before .before .before .before .before .before .before .rack .ensures .goes-on (c .before .before .before .before .before .before .before .before .before .before .before .before .before .before .before .before .before .before .before .before .if1 .left)) _ _ (rw (c .before .before .before .before .before .before .before .before .before .before .before .before .before .steps2 .given .1) at (c .before .before .before .before .before .before .before .before .before .before .before .before .before .before .before .steps .ensures)) (c .before .before .before .before .before .before .before .before .before .before .before .if2 .left) _ _ _ _ (rw (c .before .before .before .before .before .links2 .given .1) at (c .before .before .before .before .before .before .before .links .ensures)) (c .before .before .if3 .left) (c .before .if4 .taken))
+returns-6 c =
+    let at-links2 = c .before .before .before .before .before in
+    let at-links = at-links2 .before .before in
+    let at-if2 = at-links .before .before .before .before in
+    let at-steps2 = at-if2 .before .before in
+    let at-steps = at-steps2 .before .before in
+    let at-if1 = at-steps .before .before .before .before .before in
+    let at-rack = at-if1 .before in
+    refuse _ _ _ (c .refusal6 .ensures) (more-bytes _ (at-rack .rack .ensures .some-processor (at-if1 .if1 .left)) (at-rack .rack .ensures .goes-on (at-if1 .if1 .left)) _ _ (rw (at-steps2 .steps2 .given .1) at (at-steps .steps .ensures)) (at-if2 .if2 .left) _ _ _ _ (rw (at-links2 .links2 .given .1) at (at-links .links .ensures)) (c .before .before .if3 .left) (c .before .if4 .taken))
 
 returns-7 : tie.Need-returns-7
-returns-7 c = done _ (c .before .before .before .before .before .before .before .before .before .before .before .before .before .before .before .before .before .before .before .before .rack .ensures .some-processor (c .before .before .before .before .before .before .before .before .before .before .before .before .before .before .before .before .before .before .before .if1 .left)) (c .before .before .before .before .before .before .before .before .before .before .before .before .before .before .before .before .before .before .before .before .rack .ensures .goes-on (c .before .before .before .before .before .before .before .before .before .before .before .before .before .before .before .before .before .before .before .if1 .left)) _ _ (rw (c .before .before .before .before .before .before .before .before .before .before .before .before .steps2 .given .1) at (c .before .before .before .before .before .before .before .before .before .before .before .before .before .before .steps .ensures)) (c .before .before .before .before .before .before .before .before .before .before .if2 .left) _ _ _ _ (rw (c .before .before .before .before .links2 .given .1) at (c .before .before .before .before .before .before .links .ensures)) (c .before .if3 .left) (c .if4 .left)
+returns-7 c =
+    let at-links2 = c .before .before .before .before in
+    let at-links = at-links2 .before .before in
+    let at-if2 = at-links .before .before .before .before in
+    let at-steps2 = at-if2 .before .before in
+    let at-steps = at-steps2 .before .before in
+    let at-if1 = at-steps .before .before .before .before .before in
+    let at-rack = at-if1 .before in
+    done _ (at-rack .rack .ensures .some-processor (at-if1 .if1 .left)) (at-rack .rack .ensures .goes-on (at-if1 .if1 .left)) _ _ (rw (at-steps2 .steps2 .given .1) at (at-steps .steps .ensures)) (at-if2 .if2 .left) _ _ _ _ (rw (at-links2 .links2 .given .1) at (at-links .links .ensures)) (c .before .if3 .left) (c .if4 .left)
 
 pub read-spec : {M : Type 1} → statement M
 read-spec =

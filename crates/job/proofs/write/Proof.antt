@@ -86,7 +86,10 @@ add-length-2 c = search needs
 
 returns-4 : tie.Need-returns-4
 unfolding fileLength
-returns-4 c = no-room _ _ _ _ (c .before .before .before .before .if1 .left) (c .before .before .before .if2 .left) _ (c .before .before .job-trouble .ensures .accepts (c .before .if3 .left)) (c .if4 .taken)
+returns-4 c =
+    let at-if2 = c .before .before .before in
+    let at-if1 = at-if2 .before in
+    no-room _ _ _ _ (at-if1 .if1 .left) (at-if2 .if2 .left) _ (c .before .before .job-trouble .ensures .accepts (c .before .if3 .left)) (c .if4 .taken)
 
 put-job-requires : tie.Need-put-job-requires
 put-job-requires c κs = search needs
@@ -96,7 +99,13 @@ same-length c = search needs
 
 returns-5 : tie.Need-returns-5
 unfolding fileLength
-returns-5 c = wrote _ _ _ _ _ _ _ _ _ (has-room _ _ _ _ (c .before .before .before .before .before .before .before .before .if1 .left) (c .before .before .before .before .before .before .before .if2 .left) _ (c .before .before .before .before .before .before .job-trouble .ensures .accepts (c .before .before .before .before .before .if3 .left)) (c .before .before .before .before .if4 .left)) (c .before .before .put-job .ensures) (c .before .before .before .before .if4 .left)
+returns-5 c =
+    let at-if4 = c .before .before .before .before in
+    let at-if3 = at-if4 .before in
+    let at-job-trouble = at-if3 .before in
+    let at-if2 = at-job-trouble .before in
+    let at-if1 = at-if2 .before in
+    wrote _ _ _ _ _ _ _ _ _ (has-room _ _ _ _ (at-if1 .if1 .left) (at-if2 .if2 .left) _ (at-job-trouble .job-trouble .ensures .accepts (at-if3 .if3 .left)) (at-if4 .if4 .left)) (c .before .before .put-job .ensures) (at-if4 .if4 .left)
 
 pub write-spec : {M : Type 1} → statement M
 write-spec =

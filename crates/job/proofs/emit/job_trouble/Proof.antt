@@ -100,13 +100,24 @@ steps-trouble-requires : tie.Need-steps-trouble-requires
 steps-trouble-requires c κs = search needs
 
 returns-3 : tie.Need-returns-3
-returns-3 c = bad _ _ (c .if3 .taken) (bad-step _ _ _ _ _ _ _ (sym (c .before .before .before .before .before .platform-trouble .ensures) ∙ c .before .before .before .before .if1 .left) (c .before .before .before .before .before .before .pre .0) (c .before .steps-trouble .ensures .fits) _ (c .before .steps-trouble .ensures .first) (c .if3 .taken))
+returns-3 c =
+    let at-if1 = c .before .before .before .before in
+    let at-platform-trouble = at-if1 .before in
+    let at-start = at-platform-trouble .before in
+    bad _ _ (c .if3 .taken) (bad-step _ _ _ _ _ _ _ (sym (at-platform-trouble .platform-trouble .ensures) ∙ at-if1 .if1 .left) (at-start .pre .0) (c .before .steps-trouble .ensures .fits) _ (c .before .steps-trouble .ensures .first) (c .if3 .taken))
 
 links-trouble-requires : tie.Need-links-trouble-requires
 links-trouble-requires c κs = search needs
 
 returns-4 : tie.Need-returns-4
-returns-4 c = last _ _ _ _ _ _ _ (sym (c .before .before .before .before .before .before .before .before .before .platform-trouble .ensures) ∙ c .before .before .before .before .before .before .before .before .if1 .left) (c .before .before .before .before .before .before .before .before .before .before .pre .0) (c .before .before .before .before .before .steps-trouble .ensures .fits) (sym (c .before .before .before .before .before .steps-trouble .ensures .first) ∙ c .before .before .before .before .if3 .left) (c .before .before .before .before .before .before .before .if2 .left) (c .before .before .before .before .before .before .before .before .before .before .pre .1) (c .links-trouble .ensures .to-fits) (c .links-trouble .ensures .count-fits) _ (c .links-trouble .ensures .first)
+returns-4 c =
+    let at-if3 = c .before .before .before .before in
+    let at-steps-trouble = at-if3 .before in
+    let at-if2 = at-steps-trouble .before .before in
+    let at-if1 = at-if2 .before in
+    let at-platform-trouble = at-if1 .before in
+    let at-start = at-platform-trouble .before in
+    last _ _ _ _ _ _ _ (sym (at-platform-trouble .platform-trouble .ensures) ∙ at-if1 .if1 .left) (at-start .pre .0) (at-steps-trouble .steps-trouble .ensures .fits) (sym (at-steps-trouble .steps-trouble .ensures .first) ∙ at-if3 .if3 .left) (at-if2 .if2 .left) (at-start .pre .1) (c .links-trouble .ensures .to-fits) (c .links-trouble .ensures .count-fits) _ (c .links-trouble .ensures .first)
 
 pub job-trouble-spec : {M : Type 1} → statement M
 job-trouble-spec =

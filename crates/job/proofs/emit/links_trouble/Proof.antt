@@ -58,7 +58,11 @@ link-trouble-requires : tie.Need-link-trouble-requires Inv-loop μ-loop
 link-trouble-requires c κs = search needs
 
 returns : tie.Need-returns Inv-loop μ-loop
-returns c = record { first = sym (met _ _ _ _ _ _ _ (search needs) _ (c .before .link-trouble .ensures) (c .if1 .taken)) ∙ c .before .before .before .before .before .before .loop .inv .4; to-fits = c .before .before .before .before .before .before .before .before .shared-slice-known2 .given; count-fits = c .before .before .before .before .before .before .before .shared-slice-known3 .given }
+returns c =
+    let at-loop = c .before .before .before .before .before .before in
+    let at-shared-slice-known3 = at-loop .before in
+    let at-shared-slice-known2 = at-shared-slice-known3 .before in
+    record { first = sym (met _ _ _ _ _ _ _ (search needs) _ (c .before .link-trouble .ensures) (c .if1 .taken)) ∙ at-loop .loop .inv .4; to-fits = at-shared-slice-known2 .shared-slice-known2 .given; count-fits = at-shared-slice-known3 .shared-slice-known3 .given }
 
 key-requires : tie.Need-key-requires Inv-loop μ-loop
 key-requires c κs = search needs
@@ -74,7 +78,9 @@ loop-less c = search needs
 
 loop-again : tie.Need-loop-again Inv-loop μ-loop
 unfolding left
-loop-again c = (search needs, search needs, search needs, search needs, sym (on _ _ _ _ _ _ _ (search needs) _ (c .before .before .link-trouble .ensures) _ (c .key .ensures .0) (c .before .if1 .left)) ∙ c .before .before .before .before .before .before .before .loop .inv .4)
+loop-again c =
+    let at-loop = c .before .before .before .before .before .before .before in
+    (search needs, search needs, search needs, search needs, sym (on _ _ _ _ _ _ _ (search needs) _ (c .before .before .link-trouble .ensures) _ (c .key .ensures .0) (c .before .if1 .left)) ∙ at-loop .loop .inv .4)
 
 returns-2 : tie.Need-returns-2 Inv-loop μ-loop
 returns-2 c = record { first = sym (none-left _ _ _ _ _ _ _ (c .loop-test .left)) ∙ c .before .loop .inv .4; to-fits = c .before .before .before .shared-slice-known2 .given; count-fits = c .before .before .shared-slice-known3 .given }

@@ -63,10 +63,16 @@ slice-write-out : tie.Need-slice-write-out
 slice-write-out c = search needs
 
 same-length : tie.Need-same-length
-same-length c = simp length-set (c .before .before .put-links .kept .1 .1 .1 .1 .0 ∙ c .before .before .before .before .before .before .put-steps .kept .1 .1 .0 ∙ c .before .before .before .before .before .before .before .before .before .before .put-rack .kept .1 .0)
+same-length c =
+    let at-put-steps = c .before .before .before .before .before .before in
+    let at-put-rack = at-put-steps .before .before .before .before in
+    simp length-set (c .before .before .put-links .kept .1 .1 .1 .1 .0 ∙ at-put-steps .put-steps .kept .1 .1 .0 ∙ at-put-rack .put-rack .kept .1 .0)
 
 returns : tie.Need-returns
-returns c = stored _ _ _ _ _ _ _ _ _ _ _ (c .before .before .before .before .before .before .before .before .before .before .put-rack .ensures) (c .before .before .before .before .before .before .put-steps .ensures) (c .before .before .put-links .ensures)
+returns c =
+    let at-put-steps = c .before .before .before .before .before .before in
+    let at-put-rack = at-put-steps .before .before .before .before in
+    stored _ _ _ _ _ _ _ _ _ _ _ (at-put-rack .put-rack .ensures) (at-put-steps .put-steps .ensures) (c .before .before .put-links .ensures)
 
 pub put-job-spec : {M : Type 1} → statement M
 put-job-spec =

@@ -52,7 +52,9 @@ loop-less c = search needs
 
 loop-again : tie.Need-loop-again Inv-loop μ-loop
 unfolding edgeHeld
-loop-again c = (search needs, search needs, search needs, c .before .before .put-link .kept .1 .1 .1 .0 ∙ c .before .before .before .before .before .before .before .before .loop .inv .3, store-more linkBytes link-size _ _ _ _ _ _ (c .before .before .before .before .before .before .before .before .loop .inv .4) (c .before .before .put-link .ensures))
+loop-again c =
+    let at-loop = c .before .before .before .before .before .before .before .before in
+    (search needs, search needs, search needs, c .before .before .put-link .kept .1 .1 .1 .0 ∙ at-loop .loop .inv .3, store-more linkBytes link-size _ _ _ _ _ _ (at-loop .loop .inv .4) (c .before .before .put-link .ensures))
 
 same-length : tie.Need-same-length Inv-loop μ-loop
 same-length c = search needs

@@ -45,7 +45,9 @@ loop-less : tie.Need-loop-less Inv-loop μ-loop
 loop-less c = search needs
 
 loop-again : tie.Need-loop-again Inv-loop μ-loop
-loop-again c = (search needs, search needs, search needs, c .before .before .put-step .kept .1 .0 ∙ c .before .before .before .before .before .before .loop .inv .3, store-more stepBytes step-size _ _ _ _ _ _ (c .before .before .before .before .before .before .loop .inv .4) (c .before .before .put-step .ensures))
+loop-again c =
+    let at-loop = c .before .before .before .before .before .before in
+    (search needs, search needs, search needs, c .before .before .put-step .kept .1 .0 ∙ at-loop .loop .inv .3, store-more stepBytes step-size _ _ _ _ _ _ (at-loop .loop .inv .4) (c .before .before .put-step .ensures))
 
 same-length : tie.Need-same-length Inv-loop μ-loop
 same-length c = search needs

@@ -45,7 +45,10 @@ step-trouble-requires : tie.Need-step-trouble-requires Inv-loop μ-loop
 step-trouble-requires c κs = search needs
 
 returns : tie.Need-returns Inv-loop μ-loop
-returns c = record { first = sym (met _ _ _ (search needs) _ (c .before .step-trouble .ensures) (c .if1 .taken)) ∙ c .before .before .before .before .loop .inv .2; fits = c .before .before .before .before .before .shared-slice-known .given }
+returns c =
+    let at-loop = c .before .before .before .before in
+    let at-shared-slice-known = at-loop .before in
+    record { first = sym (met _ _ _ (search needs) _ (c .before .step-trouble .ensures) (c .if1 .taken)) ∙ at-loop .loop .inv .2; fits = at-shared-slice-known .shared-slice-known .given }
 
 add-i : tie.Need-add-i Inv-loop μ-loop
 add-i c = search needs

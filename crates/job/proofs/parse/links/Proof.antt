@@ -147,13 +147,17 @@ returns : tie.Need-returns Inv-loop μ-loop
 returns c = other _ _ _ _ _ _ _ _ (c .before .before .before .loop .inv .2) (search needs) (c .if1 .taken)
 
 returns-2 : tie.Need-returns-2 Inv-loop μ-loop
-returns-2 c = crowd _ _ _ _ _ _ _ _ (c .before .before .before .before .loop .inv .2) (search needs) (c .before .before .before .before .loop .inv .0) (c .before .if1 .left) (c .if2 .taken)
+returns-2 c =
+    let at-loop = c .before .before .before .before in
+    crowd _ _ _ _ _ _ _ _ (at-loop .loop .inv .2) (search needs) (at-loop .loop .inv .0) (c .before .if1 .left) (c .if2 .taken)
 
 sub-if3 : tie.Need-sub-if3 Inv-loop μ-loop
 sub-if3 c = search needs
 
 returns-3 : tie.Need-returns-3 Inv-loop μ-loop
-returns-3 c = cut _ _ _ _ _ _ _ _ (c .before .before .before .before .before .loop .inv .2) (search needs) (c .before .before .before .before .before .loop .inv .0) (c .before .before .if1 .left) (search needs) (c .if3 .taken)
+returns-3 c =
+    let at-loop = c .before .before .before .before .before in
+    cut _ _ _ _ _ _ _ _ (at-loop .loop .inv .2) (search needs) (at-loop .loop .inv .0) (c .before .before .if1 .left) (search needs) (c .if3 .taken)
 
 add-f : tie.Need-add-f Inv-loop μ-loop
 add-f c = search needs
@@ -177,7 +181,11 @@ link-trouble-requires : tie.Need-link-trouble-requires Inv-loop μ-loop
 link-trouble-requires c κs = search needs
 
 returns-4 : tie.Need-returns-4 Inv-loop μ-loop
-returns-4 c = bad _ _ _ _ _ _ _ _ (c .before .before .before .before .before .before .before .before .before .before .loop .inv .2) (search needs) (c .before .before .before .before .before .before .before .before .before .before .loop .inv .0) (c .before .before .before .before .before .before .before .if1 .left) (search needs) (search needs) _ _ _ refl refl (c .before .before .number2 .ensures) ((c .before .before .before .shared-slice-known4 .given (c .before .before .before .before .before .before .before .before .before .before .loop .at + 2)) .fits) _ (c .before .link-trouble .ensures) (c .if4 .taken)
+returns-4 c =
+    let at-shared-slice-known4 = c .before .before .before in
+    let at-if1 = at-shared-slice-known4 .before .before .before .before in
+    let at-loop = at-if1 .before .before .before in
+    bad _ _ _ _ _ _ _ _ (at-loop .loop .inv .2) (search needs) (at-loop .loop .inv .0) (at-if1 .if1 .left) (search needs) (search needs) _ _ _ refl refl (c .before .before .number2 .ensures) ((at-shared-slice-known4 .shared-slice-known4 .given (at-loop .loop .at + 2)) .fits) _ (c .before .link-trouble .ensures) (c .if4 .taken)
 
 element-write-from : tie.Need-element-write-from Inv-loop μ-loop
 element-write-from c = search needs
@@ -207,7 +215,12 @@ loop-less : tie.Need-loop-less Inv-loop μ-loop
 loop-less c = search needs
 
 loop-again : tie.Need-loop-again Inv-loop μ-loop
-loop-again c = (search needs, search needs, on _ _ _ _ _ _ _ _ (c .before .before .before .before .before .before .before .before .before .before .before .loop .inv .2) (search needs) (c .before .before .before .before .before .before .before .before .before .before .before .loop .inv .0) (c .before .before .before .before .before .before .before .before .if1 .left) (search needs) (search needs) _ _ _ refl refl (c .before .before .before .number2 .ensures) ((c .before .before .before .before .shared-slice-known4 .given (c .before .before .before .before .before .before .before .before .before .before .before .loop .at + 2)) .fits) _ (c .key .ensures .0) (sym (c .before .before .link-trouble .ensures) ∙ c .before .if4 .left))
+loop-again c =
+    let at-number2 = c .before .before .before in
+    let at-shared-slice-known4 = at-number2 .before in
+    let at-if1 = at-shared-slice-known4 .before .before .before .before in
+    let at-loop = at-if1 .before .before .before in
+    (search needs, search needs, on _ _ _ _ _ _ _ _ (at-loop .loop .inv .2) (search needs) (at-loop .loop .inv .0) (at-if1 .if1 .left) (search needs) (search needs) _ _ _ refl refl (at-number2 .number2 .ensures) ((at-shared-slice-known4 .shared-slice-known4 .given (at-loop .loop .at + 2)) .fits) _ (c .key .ensures .0) (sym (c .before .before .link-trouble .ensures) ∙ c .before .if4 .left))
 
 returns-5 : tie.Need-returns-5 Inv-loop μ-loop
 returns-5 c = ended _ _ _ _ _ _ _ _ (c .before .loop .inv .2) (c .loop-test .left)

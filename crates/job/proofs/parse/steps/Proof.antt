@@ -116,7 +116,10 @@ step-trouble-requires : tie.Need-step-trouble-requires Inv-loop μ-loop
 step-trouble-requires c κs = search needs
 
 returns-4 : tie.Need-returns-4 Inv-loop μ-loop
-returns-4 c = bad _ _ _ _ (c .before .before .before .before .before .before .before .before .loop .inv) (search needs) (c .before .before .before .before .before .if1 .left) (search needs) (search needs) _ (c .before .before .number4 .ensures) _ (c .before .step-trouble .ensures) (c .if4 .taken)
+returns-4 c =
+    let at-if1 = c .before .before .before .before .before in
+    let at-loop = at-if1 .before .before .before in
+    bad _ _ _ _ (at-loop .loop .inv) (search needs) (at-if1 .if1 .left) (search needs) (search needs) _ (c .before .before .number4 .ensures) _ (c .before .step-trouble .ensures) (c .if4 .taken)
 
 mul-durations : tie.Need-mul-durations Inv-loop μ-loop
 mul-durations c = search needs
@@ -134,7 +137,10 @@ loop-less : tie.Need-loop-less Inv-loop μ-loop
 loop-less c = search needs
 
 loop-again : tie.Need-loop-again Inv-loop μ-loop
-loop-again c = on _ _ _ _ (c .before .before .before .before .before .before .before .before .loop .inv) (search needs) (c .before .before .before .before .before .if1 .left) (search needs) (search needs) _ (c .before .before .number4 .ensures) (sym (c .before .step-trouble .ensures) ∙ c .if4 .left)
+loop-again c =
+    let at-if1 = c .before .before .before .before .before in
+    let at-loop = at-if1 .before .before .before in
+    on _ _ _ _ (at-loop .loop .inv) (search needs) (at-if1 .if1 .left) (search needs) (search needs) _ (c .before .before .number4 .ensures) (sym (c .before .step-trouble .ensures) ∙ c .if4 .left)
 
 returns-5 : tie.Need-returns-5 Inv-loop μ-loop
 returns-5 c = ended _ _ _ _ (c .before .loop .inv) (c .loop-test .left)

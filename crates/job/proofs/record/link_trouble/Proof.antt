@@ -55,10 +55,18 @@ key-requires : tie.Need-key-requires
 key-requires c κs = search needs
 
 returns-5 : tie.Need-returns-5
-returns-5 c = not-above _ _ _ _ _ (c .before .before .before .before .before .if1 .left) (c .before .before .before .before .if2 .left) (c .before .before .before .if3 .left) (c .before .before .if4 .left) _ (c .before .key .ensures .0) (c .if5 .taken)
+returns-5 c =
+    let at-if3 = c .before .before .before in
+    let at-if2 = at-if3 .before in
+    let at-if1 = at-if2 .before in
+    not-above _ _ _ _ _ (at-if1 .if1 .left) (at-if2 .if2 .left) (at-if3 .if3 .left) (c .before .before .if4 .left) _ (c .before .key .ensures .0) (c .if5 .taken)
 
 returns-6 : tie.Need-returns-6
-returns-6 c = none _ _ _ _ _ (c .before .before .before .before .before .if1 .left) (c .before .before .before .before .if2 .left) (c .before .before .before .if3 .left) (c .before .before .if4 .left) _ (c .before .key .ensures .0) (c .if5 .left)
+returns-6 c =
+    let at-if3 = c .before .before .before in
+    let at-if2 = at-if3 .before in
+    let at-if1 = at-if2 .before in
+    none _ _ _ _ _ (at-if1 .if1 .left) (at-if2 .if2 .left) (at-if3 .if3 .left) (c .before .before .if4 .left) _ (c .before .key .ensures .0) (c .if5 .left)
 
 pub link-trouble-spec : {M : Type 1} → statement M
 link-trouble-spec =
