@@ -11,6 +11,7 @@ pub mod Lists
 pub mod Halt
 pub mod Kept
 pub mod Encoded
+pub mod Met
 pub mod Written
 pub mod Rewritten
 pub mod Prefix

@@ -5,12 +5,14 @@ use mathlib.Core.List.{List}
 use Prim.Native.Nat.{ℕ, suc, _≤_, _<_}
 use native.Mathlib.Omega.{arith}
 use lib.ListN.{length, getD, drop}
+use Rattle.job.specs.declared.Platform.{Platform}
 use Rattle.job.specs.declared.Written.the-variants.{Refused}
 use Rattle.job.specs.Job.{Job}
 use Rattle.job.specs.Record.{kindOf}
 use Rattle.job.specs.Read.{refused, readJob}
 use Rattle.job.specs.Cause.{Cause, Reached}
-use Rattle.job.specs.Write.{writeAnswer, fileLength, fileOf}
+use Rattle.job.specs.Write.{fileOf, fileLength, heldJob, Held, writeAnswer}
+use Rattle.job.specs.Laws.Met.{writer-numbers}
 use Rattle.job.specs.Laws.Halt.{halts-at, cause-number, count-refused, room-refused}
 
 -- the reader refuses at a place that it comes to with the job so far: there the file ends (1), or the record has the number's cause
@@ -28,3 +30,8 @@ pub write-refused : (m l n : ℕ) (j : Job) (out : List ℕ) → writeAnswer m l
     ((n ≡ 5) × ((256 < m) ⊎ (1024 < l))) ⊎ ((readJob (fileOf j) ≡ refused n) ⊎ ((n ≡ 9) × (length out < fileLength m l)))
 unfolding writeAnswer
 write-refused m l n j out e = ⊎-elim inl (λ h. inr (room-refused (fileLength m l) n out (readJob (fileOf j)) h)) (count-refused m l n _ e)
+
+-- the writer's numbers are 3 to 7 and 9
+pub write-numbers : (p : Platform) (m l : ℕ) (durations from to counts out : List ℕ) (n : ℕ) → Held durations to counts →
+    writeAnswer m l (heldJob p m l durations from to counts) out ≡ Refused n → ((3 ≤ n) × (n ≤ 7)) ⊎ (n ≡ 9)
+write-numbers p m l durations from to counts out n h e = writer-numbers p m l durations from to counts out n h e

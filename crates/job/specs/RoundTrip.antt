@@ -8,7 +8,7 @@ use Rattle.job.specs.declared.Platform.{Platform}
 use Rattle.job.specs.declared.Written.the-variants.{Length}
 use Rattle.job.specs.Job.{Job}
 use Rattle.job.specs.Read.{accepted, readJob, padded, readingOf}
-use Rattle.job.specs.Write.{fileOf, fileLength, edgeHeld, heldJob, writeAnswer, writeOut}
+use Rattle.job.specs.Write.{fileOf, fileLength, edgeHeld, heldJob, Held, writeAnswer, writeOut}
 use Rattle.job.specs.Accepted.{Accepted, accepted-job}
 use Rattle.job.specs.Pass.{edge}
 use Rattle.job.specs.Laws.Number.{Bytes}
@@ -22,13 +22,8 @@ use Rattle.job.specs.Laws.Prefix.{first-bytes}
 pub file-length : (j : Job) → length (fileOf j) ≡ fileLength (length (j .tasks)) (length (j .edges))
 file-length j = file-size j
 
--- arrays hold what their types can: durations of 32 bits, message counts of 16 bits
-pub record Held (durations counts : List ℕ) : Type 0 where
-  pub duration-fits : (t : ℕ) → getD durations t 0 < 2 ^ 32
-  pub count-fits : (i : ℕ) → getD counts i 0 < 2 ^ 16
-
 -- 00: "A job that the writer takes, written out and read, is the same job"
-module _ (p : Platform) (m l : ℕ) (durations from to counts out : List ℕ) (h : Held durations counts) where
+module _ (p : Platform) (m l : ℕ) (durations from to counts out : List ℕ) (h : Held durations to counts) where
   abbrev held : Job
   held = heldJob p m l durations from to counts
 

@@ -2,7 +2,7 @@
 use mathlib.Core.Bool.{_||_}
 use mathlib.Core.Path.{_≡_}
 use mathlib.Core.List.{List, [], _∷_, _++_, flatMap}
-use Prim.Native.Nat.{ℕ, zero, suc, _+_, _*_}
+use Prim.Native.Nat.{ℕ, zero, suc, _+_, _*_, _^_, _<_}
 use lib.Dec.{ltb}
 use lib.ListN.{length, getD, drop}
 use Rattle.job.specs.declared.Platform.{Platform}
@@ -45,6 +45,12 @@ edgeHeld from to counts i = record { from = getD from i 0; to = getD to i 0; cou
 unfoldable pub heldJob : Platform → ℕ → ℕ → List ℕ → List ℕ → List ℕ → List ℕ → Job
 heldJob p m l durations from to counts =
     record { platform = p; tasks = values (λ t. getD durations t 0) 0 m; edges = values (edgeHeld from to counts) 0 l }
+
+-- arrays hold what their types can: durations of 32 bits, an edge's end of 8, message counts of 16
+pub record Held (durations to counts : List ℕ) : Type 0 where
+  pub duration-fits : (t : ℕ) → getD durations t 0 < 2 ^ 32
+  pub to-fits : (i : ℕ) → getD to i 0 < 2 ^ 8
+  pub count-fits : (i : ℕ) → getD counts i 0 < 2 ^ 16
 
 -- 9 if the output is too short
 unfoldable pub roomFor : ℕ → List ℕ → Answer → Written
