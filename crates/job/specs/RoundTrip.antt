@@ -15,7 +15,7 @@ use Rattle.job.specs.Laws.Number.{Bytes}
 use Rattle.job.specs.Laws.Written.{file-size, read-back}
 use Rattle.job.specs.Laws.Lists.{padded-at}
 use Rattle.job.specs.Laws.Values.{length-values, each-value, values-back, edges-held}
-use Rattle.job.specs.Laws.Rewritten.{written-back}
+use Rattle.job.specs.Laws.Rewritten.{written-back, file-bound}
 use Rattle.job.specs.Laws.Prefix.{first-bytes}
 
 -- the file has as many bytes as document 01 says
@@ -48,6 +48,12 @@ pub read-written : (file : List ℕ) (j : Job) (out : List ℕ) → Bytes file �
 read-written file j out b e h =
     let a : Accepted j = accepted-job file j e in
     written-back file j out b e h (a .few-tasks) (a .few-edges)
+
+-- 01: "The greatest file has 6,405 bytes"
+pub greatest-file : (file : List ℕ) (j : Job) → Bytes file → readJob file ≡ accepted j → length file ≤ 6405
+greatest-file file j b e =
+    let a : Accepted j = accepted-job file j e in
+    file-bound file j b e (a .few-tasks) (a .few-edges)
 
 -- the answer to a file is settled by its first 6,406 bytes
 pub settled : (file : List ℕ) → readJob (take 6406 file) ≡ readJob file

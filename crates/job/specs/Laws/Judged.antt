@@ -1,12 +1,12 @@
 -- One record: what the judgement of it comes to.
-use mathlib.Core.Bool.{Bool, true, false, not, _&&_}
+use mathlib.Core.Bool.{Bool, true, false, not}
 use mathlib.Core.Path.{_≡_, refl, ap, _∙_, sym}
 use mathlib.Core.List.{List, [], _∷_, _++_}
 use mathlib.Core.Option.{none, some}
 use Prim.Native.Nat.{ℕ, zero, suc, _+_, _*_, _<_, _≤_}
 use mathlib.Core.Logic.{⊎-elim}
 use native.Mathlib.Omega.{arith}
-use borrow.Author.Tests.{lt-ltb, le-ltb, le-leb, lt-leb, leb-true, eq-eqb, ne-eqb}
+use borrow.Author.Tests.{lt-ltb, le-ltb, le-leb, lt-leb, eq-eqb, ne-eqb}
 use lib.Dec.{ltb, leb, eqb, leb·zero}
 use lib.ListN.{length, getD, drop, drop-of-length-le}
 use lib.Seq.{drop-cons, drop-drop}
@@ -16,6 +16,7 @@ use Rattle.job.specs.Job.{Edge, Job, blank}
 use Rattle.job.specs.Record.{Kind, rack, step, link, kindOf, bodyLength, noRack, stands, full, inRange, endsRight, inOrder, added, platformIn, durationIn, edgeIn, joins, countInRange, platformInRange, durationInRange, rises, aboveLast}
 use Rattle.job.specs.Read.{Answer, refused, after, judged, records}
 use Rattle.job.specs.Laws.Number.{lt-or-ge}
+use Rattle.job.specs.Laws.Tests.{platform-facts}
 use Rattle.job.specs.Pass.{jobOf, key, platformTrouble, stepTrouble, linkTrouble}
 
 -- the bytes of a judged body are passed over
@@ -65,23 +66,23 @@ module _ (k : Kind) (rest : List ℕ) (j : Job) (more : ℕ → Job → Answer) 
   unfolding judged
   whole s f h = simp (s, f, le-ltb _ _ h)
 
--- a rack at the file's start
-rack-taken : (b : Bool) (a : Answer) → pick (not b) (refused 4) a ≡ passOr (pick b 0 4) a
-rack-taken true a = refl
-rack-taken false a = refl
+-- a value's range is the only trouble of a rack and of a step
+range-taken : (b : Bool) (a : Answer) → pick (not b) (refused 4) a ≡ passOr (pick b 0 4) a
+range-taken true a = refl
+range-taken false a = refl
 
 pub rack-at : (rest : List ℕ) (more : ℕ → Job → Answer) → 3 ≤ length rest →
     judged (some rack) rest blank more ≡ passOr (platformTrouble (platformIn rest)) (more 3 (jobOf (platformIn rest) [] []))
 unfolding stands noRack full inRange endsRight inOrder after added bodyLength blank platformTrouble
-rack-at rest more h = whole rack rest blank more refl refl h ∙ rack-taken (platformInRange (platformIn rest)) _
+rack-at rest more h = whole rack rest blank more refl refl h ∙ range-taken (platformInRange (platformIn rest)) _
 
 -- a rack without trouble has a processor
 pub rack-fits : (p : Platform) → platformTrouble p ≡ 0 → 1 ≤ p .processors
-unfolding platformTrouble platformInRange
-rack-fits p = go (leb 1 (p .processors)) refl
+unfolding platformTrouble
+rack-fits p = go (platformInRange p) refl
   where
-    go : (t : Bool) → leb 1 (p .processors) ≡ t → _≡_ {A = ℕ} (pick (t && leb (p .processors) 16 && leb (p .topology) 2 && leb (p .unit) 100) 0 4) 0 → 1 ≤ p .processors
-    go true e h = leb-true 1 (p .processors) e
+    go : (t : Bool) → platformInRange p ≡ t → _≡_ {A = ℕ} (pick t 0 4) 0 → 1 ≤ p .processors
+    go true e h = platform-facts p e .0
     go false e h = omega arith
 
 module _ (rest : List ℕ) (p : Platform) (ts : List ℕ) (more : ℕ → Job → Answer) (n : 1 ≤ p .processors) where
@@ -103,7 +104,7 @@ module _ (rest : List ℕ) (p : Platform) (ts : List ℕ) (more : ℕ → Job �
   pub step-at : length ts < 256 → 4 ≤ length rest → judged (some step) rest (jobOf p ts []) more ≡
       passOr (stepTrouble (durationIn rest)) (more 4 (jobOf p (ts ++ (durationIn rest ∷ [])) []))
   unfolding full bodyLength inRange endsRight inOrder after added stepTrouble
-  step-at h s = whole step rest (jobOf p ts []) more step-stands (lt-leb _ _ h) s ∙ rack-taken (durationInRange (durationIn rest)) _
+  step-at h s = whole step rest (jobOf p ts []) more step-stands (lt-leb _ _ h) s ∙ range-taken (durationInRange (durationIn rest)) _
 
 -- least is the least key of a link above the last of es
 abbrev pub Above : List Edge → ℕ → Type 0

@@ -33,22 +33,18 @@ first-number a b x y = go (eqb a 0)
     go true = y
     go false = x
 
+range-number : (t : Bool) → Number (pick t 0 4)
+range-number true = inl refl
+range-number false = inr (omega arith)
+
 platform-number : (p : Platform) → Number (platformTrouble p)
 unfolding platformTrouble
-platform-number p = go (platformInRange p)
-  where
-    go : (t : Bool) → Number (pick t 0 4)
-    go true = inl refl
-    go false = inr (omega arith)
+platform-number p = range-number (platformInRange p)
 
 steps-number : (ds : List ℕ) → Number (stepsTrouble ds)
 unfolding stepsTrouble stepTrouble
 steps-number [] = inl refl
-steps-number (d ∷ ds) = first-number (stepTrouble d) (stepsTrouble ds) (go (durationInRange d)) (steps-number ds)
-  where
-    go : (t : Bool) → Number (pick t 0 4)
-    go true = inl refl
-    go false = inr (omega arith)
+steps-number (d ∷ ds) = first-number (stepTrouble d) (stepsTrouble ds) (range-number (durationInRange d)) (steps-number ds)
 
 links-number : (m least : ℕ) (es : List Edge) → Number (linksTrouble m least es)
 unfolding linksTrouble linkTrouble

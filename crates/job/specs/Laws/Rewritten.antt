@@ -20,14 +20,15 @@ use Rattle.job.specs.Cause.{Fits}
 use Rattle.job.specs.Pass.{jobOf}
 use Rattle.job.specs.Laws.Number.{Bytes, none, more, bytes-number}
 use Rattle.job.specs.Laws.Tests.{never, both, platform-facts}
+use Rattle.job.specs.Laws.Stored.{flat-append}
 use Rattle.job.specs.Laws.Written.{file-size}
 use Rattle.job.specs.Laws.Kinds.{kindByte, kind-byte}
 use Rattle.job.specs.Laws.Turn.{Reads, no-more, halted, past, closed, reads}
 
 -- the job so far, and the bytes that it was read from
-data Reached : Job → List ℕ → Type 0 where
-  start : Reached blank []
-  under-way : (p : Platform) (ts : List ℕ) (es : List Edge) → 1 ≤ p .processors → Reached (jobOf p ts es) (rackBytes p ++ (flatMap stepBytes ts ++ flatMap linkBytes es))
+data ReadFrom : Job → List ℕ → Type 0 where
+  start : ReadFrom blank []
+  under-way : (p : Platform) (ts : List ℕ) (es : List Edge) → 1 ≤ p .processors → ReadFrom (jobOf p ts es) (rackBytes p ++ (flatMap stepBytes ts ++ flatMap linkBytes es))
 
 bytes-take : (n : ℕ) (bs : List ℕ) → Bytes bs → Bytes (take n bs)
 bytes-take zero bs h = none
@@ -63,12 +64,11 @@ link-bytes (x ∷ y ∷ rest) (more bx (more by b)) h = rw (bytes-back 2 rest b 
 
 flatMap-more : {A : Type 0} (f : A → List ℕ) (xs : List A) (x : A) → flatMap f (xs ++ (x ∷ [])) ≡ flatMap f xs ++ f x
 unfolding flatMap
-flatMap-more f [] x = append-nil (f x)
-flatMap-more f (y ∷ xs) x = rw (flatMap-more f xs x) (sym (append-assoc (f y) (flatMap f xs) (f x)))
+flatMap-more f xs x = flat-append f xs (x ∷ []) ∙ ap (λ (bs : List ℕ). flatMap f xs ++ bs) (append-nil (f x))
 
 -- one record more
-grown : (k : Kind) (rest : List ℕ) (j : Job) (bs : List ℕ) → 1 ≤ bodyLength k → Bytes rest → Fits rest j k → Reached j bs →
-    Reached (added j k rest) (bs ++ (kindByte k ∷ take (bodyLength k) rest))
+grown : (k : Kind) (rest : List ℕ) (j : Job) (bs : List ℕ) → 1 ≤ bodyLength k → Bytes rest → Fits rest j k → ReadFrom j bs →
+    ReadFrom (added j k rest) (bs ++ (kindByte k ∷ take (bodyLength k) rest))
 unfolding bodyLength added stands noRack inRange blank flatMap
 grown rack rest j bs h b f start =
     let p : Platform = platformIn rest in
@@ -90,13 +90,13 @@ grown link rest j bs h b f (under-way p ts es n) =
 grown end rest j bs h b f r = absurd (omega arith)
 
 -- the end record closes the file of the job so far
-closes : (j : Job) (bs : List ℕ) → stands j end ≡ true → Reached j bs → bs ++ (4 ∷ []) ≡ fileOf j
+closes : (j : Job) (bs : List ℕ) → stands j end ≡ true → ReadFrom j bs → bs ++ (4 ∷ []) ≡ fileOf j
 unfolding stands blank fileOf
 closes j bs s start = never s
 closes j bs s (under-way p ts es n) = simp append-assoc
 
 -- the bytes read so far and those that are left are the file of the accepted job
-whole-file : {xs : List ℕ} {j : Job} {a : Answer} → Reads xs j a → (i : Job) → a ≡ accepted i → Bytes xs → (bs : List ℕ) → Reached j bs → bs ++ xs ≡ fileOf i
+whole-file : {xs : List ℕ} {j : Job} {a : Answer} → Reads xs j a → (i : Job) → a ≡ accepted i → Bytes xs → (bs : List ℕ) → ReadFrom j bs → bs ++ xs ≡ fileOf i
 whole-file no-more i e b bs r = let z : false ≡ true = cc in never z
 whole-file (halted c) i e b bs r = let z : false ≡ true = cc in never z
 whole-file (past {b = x} {rest = rest} {j = j} k q h f t) i e (more l b) bs r =
@@ -122,3 +122,8 @@ written-back file j out b e h ht he =
     let q : fileOf j ≡ file = same-file file j b e in
     let s : fileLength (length (j .tasks)) (length (j .edges)) ≡ length file = sym (file-size j) ∙ ap length q in
     (simp (le-ltb 256 (length (j .tasks)), le-ltb 1024 (length (j .edges)), q, e, s, le-ltb (length out) (length file)), rw q)
+
+-- .. and has no more bytes than the greatest one
+pub file-bound : (file : List ℕ) (j : Job) → Bytes file → readJob file ≡ accepted j → length (j .tasks) ≤ 256 → length (j .edges) ≤ 1024 → length file ≤ 6405
+unfolding fileLength
+file-bound file j b e ht he = omega (arith, file-size j, ap length (same-file file j b e))

@@ -32,7 +32,7 @@ pub sets-front : (l vs : List ℕ) (n : ℕ) → length vs ≡ n → n ≤ lengt
 sets-front l vs n e h = sets-eq vs l 0 (omega arith) ∙ rw (zero-add (length vs), e)
 
 module _ {A : Type 0} (g : A → List ℕ) where
-  flat-append : (a b : List A) → flatMap g (a ++ b) ≡ flatMap g a ++ flatMap g b
+  pub flat-append : (a b : List A) → flatMap g (a ++ b) ≡ flatMap g a ++ flatMap g b
   unfolding flatMap
   flat-append [] b = refl
   flat-append (x ∷ a) b = rw (flat-append a b, append-assoc (g x) (flatMap g a) (flatMap g b))
