@@ -1,0 +1,89 @@
+-- The worked cases of document 01 ("Ticks worked out") in one table, held to the definitions by computing them.
+use mathlib.Core.Option.{bind}
+use mathlib.Core.Path.{_≡_, refl}
+use mathlib.Core.List.{List, [], _∷_, _++_, map, flatMap}
+use Prim.Native.Nat.{ℕ}
+use Rattle.job.specs.declared.Platform.{Platform}
+use Rattle.job.specs.Job.{Edge, Job}
+use Rattle.etf.specs.Lists.{upto, any, all, filter, greatest, keep, best}
+use Rattle.etf.specs.Instance.{Instance, duration, into, messageTime}
+use Rattle.etf.specs.Schedule.{Placement, placed, placementOf, finish, messageTimeTo, arrival, end, byTask}
+use Rattle.etf.specs.Rule.{atMost, move, settle, nextMoment, free, finished, ready, pair, pairs, choice, complete, round, run, planned}
+use Rattle.etf.specs.Cover.{running, busy, idle, short, latestShort, lowestIdle, later, latestInto, back, walk, lastTask, cover}
+use Rattle.etf.specs.Dearest.{greatestCost, dearestTo, dearest}
+use Rattle.etf.specs.Topology.{hypercubeHops, difference, ringHops, hops, cost}
+use Rattle.etf.specs.OfJob.{instance}
+
+-- what a case asks: the plan of a job, or the hops between two processors
+pub data Question : Type 0 where
+  planOf : Job → Question
+  hopsOf : Platform → ℕ → ℕ → Question
+
+-- the numbers that program `plan` prints after its header: of each task its number, processor, start and finish, then the end, C and the dearest chain
+pub printed : Instance → List (List ℕ)
+printed I =
+    map (λ (u : Placement). u .task ∷ u .processor ∷ u .start ∷ finish I u ∷ []) (byTask I (planned I))
+    ++ ((end I (planned I) ∷ []) ∷ (cover I ∷ []) ∷ (dearest I ∷ []) ∷ [])
+
+pub answer : Question → List (List ℕ)
+answer (planOf j) = printed (instance j)
+answer (hopsOf r p q) = (hops r p q ∷ []) ∷ []
+
+-- a question and the lines that answer it
+pub record Case : Type 0 where
+  pub question : Question
+  pub lines : List (List ℕ)
+
+abbrev rack : ℕ → ℕ → ℕ → Platform
+rack n wiring c = record { processors = n; topology = wiring; unit = c }
+
+abbrev link : ℕ → ℕ → ℕ → Edge
+link a b k = record { from = a; to = b; count = k }
+
+abbrev plan : Platform → List ℕ → List Edge → List (List ℕ) → Case
+plan r steps links lines = record { question = planOf (record { platform = r; tasks = steps; edges = links }); lines = lines }
+
+abbrev between : Platform → ℕ → ℕ → ℕ → Case
+between r p q h = record { question = hopsOf r p q; lines = (h ∷ []) ∷ [] }
+
+-- cases D, E, G and H: steps 3, 2, 2, links 0 to 1 and 0 to 2, on two processors wired flat
+abbrev fork : ℕ → List (List ℕ) → Case
+fork c lines = plan (rack 2 0 c) (3 ∷ 2 ∷ 2 ∷ []) (link 0 1 1 ∷ link 0 2 1 ∷ []) lines
+
+abbrev row : ℕ → ℕ → ℕ → ℕ → List ℕ
+row T P s f = T ∷ P ∷ s ∷ f ∷ []
+
+abbrev totals : ℕ → ℕ → ℕ → List (List ℕ)
+totals e c d = (e ∷ []) ∷ (c ∷ []) ∷ (d ∷ []) ∷ []
+
+pub cases : List Case
+cases =
+    -- A
+    plan (rack 2 0 2) (4 ∷ 3 ∷ 2 ∷ []) (link 0 2 1 ∷ link 1 2 3 ∷ []) (row 0 0 0 4 ∷ row 1 1 0 3 ∷ row 2 1 6 8 ∷ totals 8 6 6)
+    -- B
+    ∷ plan (rack 1 0 0) (1 ∷ []) [] (row 0 0 0 1 ∷ totals 1 0 0)
+    -- D, c = 1: step 2 on board 1 at 4
+    ∷ fork 1 (row 0 0 0 3 ∷ row 1 0 3 5 ∷ row 2 1 4 6 ∷ totals 6 1 1)
+    -- E, c = 2: board 1 at 5, since 5 is not above NM 5
+    ∷ fork 2 (row 0 0 0 3 ∷ row 1 0 3 5 ∷ row 2 1 5 7 ∷ totals 7 2 2)
+    -- G, c = 3: board 0 at 5
+    ∷ fork 3 (row 0 0 0 3 ∷ row 1 0 3 5 ∷ row 2 0 5 7 ∷ totals 7 3 3)
+    -- H, c = 5: board 0 at 5
+    ∷ fork 5 (row 0 0 0 3 ∷ row 1 0 3 5 ∷ row 2 0 5 7 ∷ totals 7 5 5)
+    -- J: cube, boards 5 and 10
+    ∷ between (rack 16 1 1) 5 10 4
+    -- K: ring of 5, 0 and 4
+    ∷ between (rack 5 2 1) 0 4 1
+    -- L: ring of 6, 0 and 3
+    ∷ between (rack 6 2 1) 0 3 3
+    -- shortcut 3, E with one task more: board 1 is promised to step 2 from 5 on, so it is not free at 3, and step 3 waits for board 0
+    ∷ plan (rack 2 0 2) (3 ∷ 2 ∷ 2 ∷ 2 ∷ []) (link 0 1 1 ∷ link 0 2 1 ∷ link 0 3 1 ∷ [])
+    (row 0 0 0 3 ∷ row 1 0 3 5 ∷ row 2 1 5 7 ∷ row 3 0 5 7 ∷ totals 7 2 2)
+    -- shortcut 5: the step with the last number does not finish last
+    ∷ plan (rack 2 0 0) (5 ∷ 1 ∷ []) [] (row 0 0 0 5 ∷ row 1 1 0 1 ∷ totals 5 0 0)
+    ∷ []
+
+-- each question of the table is answered by its lines
+pub cases-hold : map (λ (c : Case). answer (c .question)) cases ≡ map (λ (c : Case). c .lines) cases
+unfolding cases answer printed instance upto any all filter greatest keep best duration into messageTime placed placementOf messageTimeTo arrival end byTask atMost move settle nextMoment free finished ready pair pairs choice complete round run planned running busy idle short latestShort lowestIdle later latestInto back walk lastTask cover greatestCost dearestTo dearest hypercubeHops difference ringHops hops cost bind flatMap
+cases-hold = refl

@@ -1,0 +1,43 @@
+-- What is to be planned: tasks and their edges, processors and the cost of a message between any two of them.
+use mathlib.Core.List.{List}
+use Prim.Native.Nat.{ℕ, _*_, _≤_, _<_}
+use lib.Dec.{eqb}
+use lib.ListN.{length, getD}
+use Rattle.job.specs.Job.{Edge}
+use Rattle.etf.specs.Lists.{_∈_, filter}
+
+-- an instance of the planning problem. `durations` are those of the tasks (01: steps) from task 0 on, `edges` the links.
+-- `cost p q` is what one message takes from processor p to processor q (01: boards), any function: the two ways may
+-- differ, and nothing is said of p to p. `order` has the tasks by priority: a tie goes to the one that stands first.
+pub record Instance : Type 0 where
+  pub processors : ℕ
+  pub durations : List ℕ
+  pub edges : List Edge
+  pub cost : ℕ → ℕ → ℕ
+  pub order : List ℕ
+
+module _ (I : Instance) where
+  -- the number of tasks (01: m)
+  abbrev pub tasks : ℕ
+  tasks = length (I .durations)
+
+  -- the duration of task T
+  unfoldable pub duration : ℕ → ℕ
+  duration T = getD (I .durations) T 0
+
+  -- the edges from the predecessors of task T
+  unfoldable pub into : ℕ → List Edge
+  into T = filter (λ e. eqb (e .to) T) (I .edges)
+
+  -- the time of an edge's messages from processor p to q (01: "A message bundle takes its count times the cost from the sender's board to the receiver's")
+  unfoldable pub messageTime : Edge → ℕ → ℕ → ℕ
+  messageTime e p q = e .count * I .cost p q
+
+  -- at least one processor and one task, durations of at least 1, edges from lower to higher tasks, the order that of the tasks
+  pub record WellFormed : Type 0 where
+    pub some-processor : 1 ≤ I .processors
+    pub some-task : 1 ≤ tasks
+    pub takes-time : (T : ℕ) → T < tasks → 1 ≤ duration T
+    pub goes-up : (e : Edge) → e ∈ I .edges → (e .from < e .to) × (e .to < tasks)
+    pub has-all : (T : ℕ) → T < tasks → T ∈ I .order
+    pub has-only : (T : ℕ) → T ∈ I .order → T < tasks

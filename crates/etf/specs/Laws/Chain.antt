@@ -1,0 +1,1 @@
+-- The rounds counted, and how many a chain of tasks takes.

@@ -1,0 +1,1 @@
+-- The checker's answer against the rules: each of its tests is one rule.

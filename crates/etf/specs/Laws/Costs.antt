@@ -1,0 +1,1 @@
+-- How dear a message can be, and what stands in the square of costs.

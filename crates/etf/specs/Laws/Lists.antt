@@ -1,0 +1,202 @@
+-- What the words for lists mean for members.
+use mathlib.Core.Path.{_≡_, refl, sym, ap, subst}
+use mathlib.Core.Logic.{_⊎_, inl, inr}
+use mathlib.Core.Bool.{Bool, true, false, not, _&&_, _||_}
+use mathlib.Core.Option.{Option, none, some}
+use mathlib.Core.List.{List, [], _∷_, _++_, map, flatMap}
+use Prim.Native.Nat.{ℕ, zero, suc, _≤_, _<_, max}
+use native.Mathlib.Omega.{arith}
+use lib.Dec.{ltb, ltb→lt, nltb→le}
+use lib.Dec.{T as Holds}
+use Rattle.job.specs.Number.{pick}
+use Rattle.etf.specs.Lists.{_∈_, here, there, upto, any, all, filter, greatest, keep, best}
+use Rattle.etf.specs.Laws.Tests.{either, not-both, fails, both, first, second, or-left, or-right, or-cases, pick-yes, le-or-lt}
+
+-- what holds of the head and of each member of the tail holds of each member
+pub for-cons : {A : Type 0} (P : A → Type 0) {x : A} {xs : List A}
+    → P x → ((a : A) → a ∈ xs → P a) → (a : A) → a ∈ (x ∷ xs) → P a
+for-cons P p q a (here e) = subst P (sym e) p
+for-cons P p q a (there h) = q a h
+
+pub in-nothing : {A : Type 0} {a : A} → a ∈ [] → ⊥
+in-nothing h = elim h [ ]
+
+pub in-left : {A : Type 0} {a : A} {s : List A} (t : List A) → a ∈ s → a ∈ (s ++ t)
+in-left t (here e) = here e
+in-left t (there h) = there (in-left t h)
+
+pub in-right : {A : Type 0} {a : A} (s : List A) {t : List A} → a ∈ t → a ∈ (s ++ t)
+in-right [] h = h
+in-right (x ∷ s) h = there (in-right s h)
+
+-- what holds of each member of two lists holds of each member of their join
+pub for-join : {A : Type 0} (P : A → Type 0) (s t : List A)
+    → ((a : A) → a ∈ s → P a) → ((a : A) → a ∈ t → P a) → (a : A) → a ∈ (s ++ t) → P a
+for-join P [] t p q a h = q a h
+for-join P (x ∷ s) t p q a h =
+    for-cons P (p x (here refl)) (for-join P s t (λ b k. p b (there k)) q) a h
+
+pub any-of : {A : Type 0} (p : A → Bool) (l : List A) (a : A) → a ∈ l → Holds (p a) → Holds (any p l)
+unfolding any
+any-of p (x ∷ xs) a (here e) t = or-left (p x) (any p xs) (subst (λ b. Holds (p b)) e t)
+any-of p (x ∷ xs) a (there h) t = or-right (p x) (any p xs) (any-of p xs a h t)
+
+pub any-one : {A : Type 0} (p : A → Bool) (l : List A) → Holds (any p l) → (a : A) × (a ∈ l) × Holds (p a)
+unfolding any
+any-one p [] t = absurd t
+any-one p (x ∷ xs) t = go (or-cases (p x) (any p xs) t) (any-one p xs)
+  where
+    go : Holds (p x) ⊎ Holds (any p xs) → (Holds (any p xs) → (a : _) × (a ∈ xs) × Holds (p a))
+        → (a : _) × (a ∈ (x ∷ xs)) × Holds (p a)
+    go (inl h) r = (x, here refl, h)
+    go (inr h) r = (r h .0, there (r h .1), r h .2)
+
+pub all-of : {A : Type 0} (p : A → Bool) (l : List A) → ((a : A) → a ∈ l → Holds (p a)) → Holds (all p l)
+unfolding all
+all-of p [] f = tt
+all-of p (x ∷ xs) f = both (p x) (all p xs) (f x (here refl)) (all-of p xs (λ a h. f a (there h)))
+
+pub all-at : {A : Type 0} (p : A → Bool) (l : List A) → Holds (all p l) → (a : A) → a ∈ l → Holds (p a)
+unfolding all
+all-at p [] t a h = absurd (in-nothing h)
+all-at p (x ∷ xs) t a h =
+    for-cons (λ b. Holds (p b)) (first (p x) (all p xs) t) (λ b k. all-at p xs (second (p x) (all p xs) t) b k) a h
+
+pub all-not : {A : Type 0} (p : A → Bool) (l : List A) → Holds (not (all p l)) → (a : A) × (a ∈ l) × Holds (not (p a))
+unfolding all
+all-not p [] t = absurd t
+all-not p (x ∷ xs) t = go (p x) refl t (λ k. all-not p xs k)
+  where
+    go : (b : Bool) → p x ≡ b → Holds (not (b && all p xs)) → (Holds (not (all p xs)) → (a : _) × (a ∈ xs) × Holds (not (p a)))
+        → (a : _) × (a ∈ (x ∷ xs)) × Holds (not (p a))
+    go true e k r = let z = r k in (z .0, there (z .1), z .2)
+    go false e k r = (x, here refl, subst (λ b. Holds (not b)) (sym e) tt)
+
+pub filter-in : {A : Type 0} (p : A → Bool) (l : List A) (a : A) → a ∈ l → Holds (p a) → a ∈ filter p l
+unfolding filter
+filter-in p (x ∷ xs) a (here e) t =
+    rw (pick-yes (p x) (x ∷ filter p xs) (filter p xs) (subst (λ b. Holds (p b)) e t)) (here e)
+filter-in p (x ∷ xs) a (there h) t = go (p x) (filter-in p xs a h t)
+  where
+    go : (b : Bool) → a ∈ filter p xs → a ∈ pick b (x ∷ filter p xs) (filter p xs)
+    go true k = there k
+    go false k = k
+
+pub filter-of : {A : Type 0} (p : A → Bool) (l : List A) (a : A) → a ∈ filter p l → (a ∈ l) × Holds (p a)
+unfolding filter
+filter-of p [] a h = absurd (in-nothing h)
+filter-of p (x ∷ xs) a h = go (p x) refl h (λ b k. filter-of p xs b k)
+  where
+    go : (b : Bool) → p x ≡ b → a ∈ pick b (x ∷ filter p xs) (filter p xs)
+        → ((c : _) → c ∈ filter p xs → (c ∈ xs) × Holds (p c)) → (a ∈ (x ∷ xs)) × Holds (p a)
+    go true e k r =
+        for-cons (λ c. (c ∈ (x ∷ xs)) × Holds (p c)) (here refl, subst Holds (sym e) tt) (λ c q. (there (r c q .0), r c q .1)) a k
+    go false e k r = (there (r a k .0), r a k .1)
+
+pub greatest-ge : {A : Type 0} (f : A → ℕ) (l : List A) (a : A) → a ∈ l → f a ≤ greatest f l
+unfolding greatest
+greatest-ge f (x ∷ xs) a (here e) = omega (arith, ap f e)
+greatest-ge f (x ∷ xs) a (there h) = omega (arith, greatest-ge f xs a h)
+
+pub greatest-at : {A : Type 0} (f : A → ℕ) (l : List A) (t : ℕ) → t < greatest f l → (a : A) × (a ∈ l) × (t < f a)
+unfolding greatest
+greatest-at f [] t h = absurd (omega arith)
+greatest-at f (x ∷ xs) t h = go (le-or-lt (suc t) (f x)) (λ k. greatest-at f xs t k)
+  where
+    go : (t < f x) ⊎ (f x < suc t) → (t < greatest f xs → (a : _) × (a ∈ xs) × (t < f a)) → (a : _) × (a ∈ (x ∷ xs)) × (t < f a)
+    go (inl k) r = (x, here refl, k)
+    go (inr k) r = let z = r (omega arith) in (z .0, there (z .1), z .2)
+
+pub greatest-same : {A : Type 0} (f g : A → ℕ) (l : List A) → ((a : A) → a ∈ l → f a ≡ g a) → greatest f l ≡ greatest g l
+unfolding greatest
+greatest-same f g [] e = refl
+greatest-same f g (x ∷ xs) e = cc (e x (here refl), greatest-same f g xs (λ a h. e a (there h)))
+
+pub upto-in : (n i : ℕ) → i < n → i ∈ upto n
+unfolding upto
+upto-in zero i h = absurd (omega arith)
+upto-in (suc n) i h = go (le-or-lt (suc i) n) (λ k. upto-in n i k)
+  where
+    go : (i < n) ⊎ (n < suc i) → (i < n → i ∈ upto n) → i ∈ (upto n ++ (n ∷ []))
+    go (inl k) r = in-left (n ∷ []) (r k)
+    go (inr k) r = in-right (upto n) (here (omega arith))
+
+pub upto-of : (n i : ℕ) → i ∈ upto n → i < n
+unfolding upto
+upto-of zero i h = absurd (in-nothing h)
+upto-of (suc n) i h =
+    for-join (λ k. k < suc n) (upto n) (n ∷ []) (λ k q. omega (arith, upto-of n k q))
+    (for-cons (λ k. k < suc n) (omega arith) (λ k q. absurd (in-nothing q))) i h
+
+pub flatMap-in : {A B : Type 0} (f : A → List B) (l : List A) (a : A) (b : B) → a ∈ l → b ∈ f a → b ∈ flatMap f l
+unfolding flatMap
+flatMap-in f (x ∷ xs) a b (here e) k = in-left (flatMap f xs) (subst (λ c. b ∈ f c) e k)
+flatMap-in f (x ∷ xs) a b (there h) k = in-right (f x) (flatMap-in f xs a b h k)
+
+pub flatMap-of : {A B : Type 0} (f : A → List B) (l : List A) (b : B) → b ∈ flatMap f l → (a : A) × (a ∈ l) × (b ∈ f a)
+unfolding flatMap
+flatMap-of f [] b h = absurd (in-nothing h)
+flatMap-of {A} f (x ∷ xs) b h =
+    for-join (λ c. (a : A) × (a ∈ (x ∷ xs)) × (c ∈ f a)) (f x) (flatMap f xs)
+    (λ c k. (x, here refl, k)) (λ c k. let r = flatMap-of f xs c k in (r .0, there (r .1), r .2)) b h
+
+pub map-in : {A B : Type 0} (f : A → B) (l : List A) (a : A) → a ∈ l → f a ∈ map f l
+map-in f (x ∷ xs) a (here e) = here (ap f e)
+map-in f (x ∷ xs) a (there h) = there (map-in f xs a h)
+
+pub map-of : {A B : Type 0} (f : A → B) (l : List A) (b : B) → b ∈ map f l → (a : A) × (a ∈ l) × (b ≡ f a)
+map-of f [] b h = absurd (in-nothing h)
+map-of {A} f (x ∷ xs) b h =
+    for-cons (λ c. (a : A) × (a ∈ (x ∷ xs)) × (c ≡ f a)) (x, here refl, refl)
+    (λ c k. let r = map-of f xs c k in (r .0, there (r .1), r .2)) b h
+
+-- ---- the best member
+
+-- beating is an order: of two, not each beats the other, and what does not beat b does not beat what b does not beat
+pub record Order {A : Type 0} (beats : A → A → Bool) : Type 0 where
+  pub one-way : (a b : A) → Holds (beats a b) → Holds (not (beats b a))
+  pub through : (a b c : A) → Holds (not (beats a b)) → Holds (not (beats b c)) → Holds (not (beats a c))
+
+-- what `best` gives
+pub data Best {A : Type 0} (beats : A → A → Bool) (l : List A) : Option A → Type 0 where
+  nothing : ((a : A) → a ∈ l → ⊥) → Best beats l none
+  found : (b : A) → b ∈ l → ((a : A) → a ∈ l → Holds (not (beats a b))) → Best beats l (some b)
+
+keep-is : {A : Type 0} (beats : A → A → Bool) → Order beats → (x : A) (l : List A) (o : Option A) → Best beats l o → Best beats (x ∷ l) (some (keep beats x o))
+unfolding keep
+keep-is beats O x l none (nothing z) =
+    found x (here refl) (for-cons (λ a. Holds (not (beats a x))) (self x) (λ a h. absurd (z a h)))
+  where
+    self : (y : _) → Holds (not (beats y y))
+    self y = fails (beats y y) (λ h. not-both (beats y y) (O .one-way y y h) h)
+keep-is beats O x l (some y) (found b h low) = go (beats y x) refl
+  where
+    self : (z : _) → Holds (not (beats z z))
+    self z = fails (beats z z) (λ k. not-both (beats z z) (O .one-way z z k) k)
+
+    go : (t : Bool) → beats y x ≡ t → Best beats (x ∷ l) (some (pick t y x))
+    go true e = found y (there h) (for-cons (λ a. Holds (not (beats a y))) (O .one-way y x (subst Holds (sym e) tt)) low)
+    go false e =
+        found x (here refl) (for-cons (λ a. Holds (not (beats a x))) (self x)
+        (λ a k. O .through a y x (low a k) (subst (λ t. Holds (not t)) (sym e) tt)))
+
+pub best-is : {A : Type 0} (beats : A → A → Bool) → Order beats → (l : List A) → Best beats l (best beats l)
+unfolding best
+best-is beats O [] = nothing (λ a h. in-nothing h)
+best-is beats O (x ∷ xs) = keep-is beats O x xs (best beats xs) (best-is beats O xs)
+
+-- less by a measure is an order
+pub by-least : {A : Type 0} (f : A → ℕ) → Order (λ a b. ltb (f a) (f b))
+by-least f = record {
+  one-way = λ a b h. fails (ltb (f b) (f a)) (λ k. absurd (omega (arith, ltb→lt (f a) (f b) h, ltb→lt (f b) (f a) k)));
+  through = λ a b c h k.
+      fails (ltb (f a) (f c)) (λ q. absurd (omega (arith, nltb→le (f a) (f b) h, nltb→le (f b) (f c) k, ltb→lt (f a) (f c) q)));
+}
+
+-- and so is greater
+pub by-greatest : {A : Type 0} (f : A → ℕ) → Order (λ a b. ltb (f b) (f a))
+by-greatest f = record {
+  one-way = λ a b h. fails (ltb (f a) (f b)) (λ k. absurd (omega (arith, ltb→lt (f b) (f a) h, ltb→lt (f a) (f b) k)));
+  through = λ a b c h k.
+      fails (ltb (f c) (f a)) (λ q. absurd (omega (arith, nltb→le (f b) (f a) h, nltb→le (f c) (f b) k, ltb→lt (f c) (f a) q)));
+}

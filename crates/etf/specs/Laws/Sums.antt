@@ -1,0 +1,201 @@
+-- Sums over the numbers below n, and the ticks in which something runs.
+use mathlib.Core.Path.{_≡_, refl, ap}
+use mathlib.Core.Logic.{_⊎_, inl, inr}
+use mathlib.Core.Bool.{Bool, true, false, not, _&&_}
+use mathlib.Core.List.{List, [], _∷_, _++_}
+use Prim.Native.Nat.{ℕ, zero, suc, _+_, _*_, _-_, _≤_, _<_, min}
+use native.Mathlib.Omega.{arith}
+use native.Mathlib.Nat.{add-zero, add-suc}
+use lib.Dec.{leb, ltb, leb→le, le→leb, ltb→lt, lt→ltb}
+use lib.Dec.{T as Holds}
+use lib.ListN.{length}
+use Rattle.job.specs.Number.{pick}
+use Rattle.etf.specs.Lists.{upto, filter}
+use Rattle.etf.specs.Cover.{running}
+use Rattle.etf.specs.Laws.Tests.{either, not-both, both, first, second, le-or-lt}
+
+-- the sum of f below n
+unfoldable pub sum : ℕ → (ℕ → ℕ) → ℕ
+sum zero f = 0
+sum (suc n) f = sum n f + f n
+
+-- 1 for a passed test, 0 for a failed one
+unfoldable pub one-if : Bool → ℕ
+one-if true = 1
+one-if false = 0
+
+pub one-if-yes : (b : Bool) → Holds b → one-if b ≡ 1
+unfolding one-if
+one-if-yes true h = refl
+one-if-yes false h = absurd h
+
+pub one-if-no : (b : Bool) → Holds (not b) → one-if b ≡ 0
+unfolding one-if
+one-if-no true h = absurd h
+one-if-no false h = refl
+
+pub sum-le : (n : ℕ) (f g : ℕ → ℕ) → ((i : ℕ) → i < n → f i ≤ g i) → sum n f ≤ sum n g
+unfolding sum
+sum-le zero f g h = omega arith
+sum-le (suc n) f g h = omega (arith, h n (omega arith), sum-le n f g (λ i k. h i (omega arith)))
+
+pub sum-same : (n : ℕ) (f g : ℕ → ℕ) → ((i : ℕ) → i < n → f i ≡ g i) → sum n f ≡ sum n g
+unfolding sum
+sum-same zero f g h = refl
+sum-same (suc n) f g h = omega (arith, h n (omega arith), sum-same n f g (λ i k. h i (omega arith)))
+
+pub sum-add : (n : ℕ) (f g : ℕ → ℕ) → sum n (λ i. f i + g i) ≡ sum n f + sum n g
+unfolding sum
+sum-add zero f g = refl
+sum-add (suc n) f g = omega (arith, sum-add n f g)
+
+pub sum-each : (n c : ℕ) → sum n (λ i. c) ≡ n * c
+unfolding sum
+sum-each zero c = omega arith
+sum-each (suc n) c = omega (arith, sum-each n c)
+
+-- a double sum may be taken in either order
+pub sum-swap : (a b : ℕ) (f : ℕ → ℕ → ℕ) → sum a (λ i. sum b (λ j. f i j)) ≡ sum b (λ j. sum a (λ i. f i j))
+unfolding sum
+sum-swap zero b f = omega (arith, sum-each b 0)
+sum-swap (suc a) b f = omega (arith, sum-swap a b f, sum-add b (λ j. sum a (λ i. f i j)) (λ j. f a j))
+
+-- a sum of terms of which only the one at p is not 0
+pub sum-only : (n p : ℕ) (f : ℕ → ℕ) → ((i : ℕ) → i < n → ¬ (i ≡ p) → f i ≡ 0) → p < n → sum n f ≡ f p
+unfolding sum
+sum-only zero p f z h = absurd (omega arith)
+sum-only (suc n) p f z h = go (le-or-lt (suc p) n) (λ k. sum-only n p f (λ i q. z i (omega arith)) k)
+  where
+    rest : (k : ℕ) → k ≤ n → n ≡ p → sum k f ≡ 0
+    rest zero q e = refl
+    rest (suc k) q e = omega (arith, rest k (omega arith) e, z k (omega arith) (omega arith))
+
+    go : (p < n) ⊎ (n < suc p) → (p < n → sum n f ≡ f p) → sum n f + f n ≡ f p
+    go (inl k) r = omega (arith, r k, z n (omega arith) (omega arith))
+    go (inr k) r = let e : n ≡ p = omega arith in omega (arith, rest n (omega arith) e, ap f e)
+
+-- terms of at most 1, no two of which are 1, sum to at most 1
+pub sum-at-most-one : (n : ℕ) (f : ℕ → ℕ) → ((i : ℕ) → i < n → f i ≤ 1)
+    → ((i j : ℕ) → i < j → j < n → 1 ≤ f i → 1 ≤ f j → ⊥) → sum n f ≤ 1
+unfolding sum
+sum-at-most-one zero f h d = omega arith
+sum-at-most-one (suc n) f h d = go (le-or-lt 1 (f n)) (sum-at-most-one n f (λ i k. h i (omega arith)) (λ i j p q. d i j p (omega arith)))
+  where
+    none-at : (k : ℕ) → k < n → 1 ≤ f n → (1 ≤ f k) ⊎ (f k < 1) → f k ≡ 0
+    none-at k q e (inl y) = absurd (d k n q (omega arith) y e)
+    none-at k q e (inr y) = omega arith
+
+    rest : (k : ℕ) → k ≤ n → 1 ≤ f n → sum k f ≡ 0
+    rest zero q e = refl
+    rest (suc k) q e = omega (arith, rest k (omega arith) e, none-at k (omega arith) e (le-or-lt 1 (f k)))
+
+    go : (1 ≤ f n) ⊎ (f n < 1) → sum n f ≤ 1 → sum n f + f n ≤ 1
+    go (inl k) r = omega (arith, rest n (omega arith) k, h n (omega arith))
+    go (inr k) r = omega arith
+
+length-filter-snoc : (p : ℕ → Bool) (l : List ℕ) (a : ℕ)
+    → length (filter p (l ++ (a ∷ []))) ≡ length (filter p l) + one-if (p a)
+unfolding filter one-if
+length-filter-snoc p [] a = go (p a)
+  where
+    go : (b : Bool) → length (pick b (a ∷ []) []) ≡ 0 + one-if b
+    go true = refl
+    go false = refl
+length-filter-snoc p (x ∷ l) a = go (p x) (length-filter-snoc p l a)
+  where
+    go : (b : Bool) → length (filter p (l ++ (a ∷ []))) ≡ length (filter p l) + one-if (p a)
+        → length (pick b (x ∷ filter p (l ++ (a ∷ []))) (filter p (l ++ (a ∷ []))))
+        ≡ length (pick b (x ∷ filter p l) (filter p l)) + one-if (p a)
+    go true r = omega arith
+    go false r = r
+
+-- how many numbers below n pass a test, counted two ways
+pub length-filter : (n : ℕ) (p : ℕ → Bool) → length (filter p (upto n)) ≡ sum n (λ i. one-if (p i))
+unfolding upto filter sum
+length-filter zero p = refl
+length-filter (suc n) p = omega (arith, length-filter-snoc p (upto n) n, length-filter n p)
+
+pub running-of : (s d t : ℕ) → Holds (running s d t) → (s ≤ t) × (t < s + d)
+unfolding running
+running-of s d t h = (leb→le s t (first (leb s t) (ltb t (s + d)) h), ltb→lt t (s + d) (second (leb s t) (ltb t (s + d)) h))
+
+pub running-in : (s d t : ℕ) → s ≤ t → t < s + d → Holds (running s d t)
+unfolding running
+running-in s d t h k = both (leb s t) (ltb t (s + d)) (le→leb s t h) (lt→ltb t (s + d) k)
+
+sum-window : (E s d : ℕ) → sum E (λ t. one-if (running s d t)) ≡ min E (s + d) - s
+unfolding sum
+sum-window zero s d = omega arith
+sum-window (suc E) s d = go (either (running s d E)) (sum-window E s d)
+  where
+    no-run : Holds (not (running s d E)) → (s ≤ E) ⊎ (E < s) → (suc E ≤ s + d) ⊎ (s + d < suc E)
+        → sum E (λ t. one-if (running s d t)) ≡ min E (s + d) - s
+        → sum E (λ t. one-if (running s d t)) ≡ min (suc E) (s + d) - s
+    no-run h (inl x) (inl y) r = absurd (not-both (running s d E) h (running-in s d E x y))
+    no-run h (inl x) (inr y) r = omega arith
+    no-run h (inr x) (inl y) r = omega arith
+    no-run h (inr x) (inr y) r = omega arith
+
+    go : Holds (running s d E) ⊎ Holds (not (running s d E)) → sum E (λ t. one-if (running s d t)) ≡ min E (s + d) - s
+        → sum E (λ t. one-if (running s d t)) + one-if (running s d E) ≡ min (suc E) (s + d) - s
+    go (inl h) r = omega (arith, one-if-yes (running s d E) h, running-of s d E h)
+    go (inr h) r =
+        omega (arith, one-if-no (running s d E) h, no-run h (le-or-lt s E) (le-or-lt (suc E) (s + d)) r)
+
+-- it runs in d ticks, if it ends by E
+pub sum-running : (E s d : ℕ) → s + d ≤ E → sum E (λ t. one-if (running s d t)) ≡ d
+sum-running E s d h = omega (arith, sum-window E s d)
+
+pub sum-ge : (n : ℕ) (f : ℕ → ℕ) (i : ℕ) → i < n → f i ≤ sum n f
+unfolding sum
+sum-ge zero f i h = absurd (omega arith)
+sum-ge (suc n) f i h = go (le-or-lt (suc i) n) (λ k. sum-ge n f i k)
+  where
+    go : (i < n) ⊎ (n < suc i) → (i < n → f i ≤ sum n f) → f i ≤ sum n f + f n
+    go (inl k) r = omega (arith, r k)
+    go (inr k) r = let e : i ≡ n = omega arith in omega (arith, ap f e)
+
+-- a sum falls where one term falls and none rises
+pub sum-less : (n p : ℕ) (f g : ℕ → ℕ) → ((i : ℕ) → i < n → f i ≤ g i) → p < n → f p < g p → sum n f < sum n g
+unfolding sum
+sum-less zero p f g h b l = absurd (omega arith)
+sum-less (suc n) p f g h b l = go (le-or-lt (suc p) n) (λ k. sum-less n p f g (λ i q. h i (omega arith)) k l)
+  where
+    go : (p < n) ⊎ (n < suc p) → (p < n → sum n f < sum n g) → sum n f + f n < sum n g + g n
+    go (inl k) r = omega (arith, r k, h n (omega arith))
+    go (inr k) r =
+        let e : p ≡ n = omega arith in
+        omega (arith, ap f e, ap g e, sum-le n f g (λ i q. h i (omega arith)))
+
+pub one-if-le : (a b : Bool) → (Holds a → Holds b) → one-if a ≤ one-if b
+unfolding one-if
+one-if-le true true h = omega arith
+one-if-le true false h = absurd (h tt)
+one-if-le false true h = omega arith
+one-if-le false false h = omega arith
+
+pub one-if-most : (b : Bool) → one-if b ≤ 1
+unfolding one-if
+one-if-most true = omega arith
+one-if-most false = omega arith
+
+pub one-if-of : (b : Bool) → 1 ≤ one-if b → Holds b
+unfolding one-if
+one-if-of true h = tt
+one-if-of false h = absurd (omega arith)
+
+-- a sum grows by at most c a tick over k ticks in which no term passes c
+pub sum-stretch : (f : ℕ → ℕ) (a k c : ℕ) → ((t : ℕ) → a ≤ t → t < a + k → f t ≤ c) → sum (a + k) f ≤ sum a f + k * c
+unfolding sum
+sum-stretch f a zero c h = rw (add-zero a) (omega arith)
+sum-stretch f a (suc k) c h =
+    rw (add-suc a k) (omega (arith, h (a + k) (omega arith) (omega arith), sum-stretch f a k c (λ t p q. h t p (omega arith))))
+
+pub sum-grows : (f : ℕ → ℕ) (a b : ℕ) → a ≤ b → sum a f ≤ sum b f
+unfolding sum
+sum-grows f a zero h = let e : a ≡ 0 = omega arith in rw e (omega arith)
+sum-grows f a (suc b) h = go (le-or-lt a b) (λ k. sum-grows f a b k)
+  where
+    go : (a ≤ b) ⊎ (b < a) → (a ≤ b → sum a f ≤ sum b f) → sum a f ≤ sum b f + f b
+    go (inl k) r = omega (arith, r k)
+    go (inr k) r = let e : a ≡ suc b = omega arith in rw e (omega arith)

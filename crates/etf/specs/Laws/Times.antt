@@ -1,0 +1,1 @@
+-- How late a planned task can finish: each task placed adds at most its duration and one message time.

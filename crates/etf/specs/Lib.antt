@@ -1,0 +1,12 @@
+pub mod Lists
+pub mod Instance
+pub mod Schedule
+pub mod Rule
+pub mod Cover
+pub mod Dearest
+pub mod Checker
+pub mod Ideal
+pub mod Topology
+pub mod OfJob
+pub mod Cases
+pub mod Laws

@@ -1,0 +1,49 @@
+-- Schedules (01: plans), whole or begun: which task stands on which processor from when, when it finishes, when messages arrive.
+use mathlib.Core.Bool.{Bool}
+use mathlib.Core.List.{List, [], _∷_, map}
+use Prim.Native.Nat.{ℕ, _+_}
+use lib.Dec.{eqb}
+use Rattle.job.specs.Number.{pick}
+use Rattle.job.specs.Job.{Edge}
+use Rattle.etf.specs.Lists.{upto, any, greatest}
+use Rattle.etf.specs.Instance.{Instance, tasks, duration, into, messageTime}
+
+-- a task, its processor (01: board) and its start
+pub record Placement : Type 0 where
+  pub task : ℕ
+  pub processor : ℕ
+  pub start : ℕ
+
+-- task T is placed
+unfoldable pub placed : List Placement → ℕ → Bool
+placed ps T = any (λ u. eqb (u .task) T) ps
+
+-- the placement of task T (of a task that is not placed: processor 0 at 0, which no rule looks at)
+unfoldable pub placementOf : List Placement → ℕ → Placement
+placementOf [] T = record { task = T; processor = 0; start = 0 }
+placementOf (u ∷ ps) T = pick (eqb (u .task) T) u (placementOf ps T)
+
+module _ (I : Instance) where
+  -- the finish of a placed task: its start plus its duration
+  abbrev pub finish : Placement → ℕ
+  finish u = u .start + duration I (u .task)
+
+  -- the time of edge e's messages from its predecessor's processor to P (01: "bundle time to P")
+  unfoldable pub messageTimeTo : List Placement → ℕ → Edge → ℕ
+  messageTimeTo ps P e = messageTime I e (placementOf ps (e .from) .processor) P
+
+  -- when the messages of edge e are at processor P (01: "predecessor's finish plus bundle time to P")
+  abbrev pub reach : List Placement → ℕ → Edge → ℕ
+  reach ps P e = finish (placementOf ps (e .from)) + messageTimeTo ps P e
+
+  -- the arrival of task T at processor P (01: "0 with no predecessors, else the greatest of predecessor's finish plus bundle time to P")
+  unfoldable pub arrival : List Placement → ℕ → ℕ → ℕ
+  arrival ps T P = greatest (reach ps P) (into I T)
+
+  -- the end of a schedule (01: "The plan's end is the greatest finish")
+  unfoldable pub end : List Placement → ℕ
+  end ps = greatest finish ps
+
+  -- the placements of all tasks, by task number
+  unfoldable pub byTask : List Placement → List Placement
+  byTask ps = map (placementOf ps) (upto (tasks I))

@@ -1,0 +1,37 @@
+-- Link costs (01: "Link costs").
+use mathlib.Core.Bool.{not, _&&_}
+use mathlib.Core.List.{List, map}
+use Prim.Native.Nat.{ℕ, zero, suc, _+_, _-_, _*_, _/_, _%_, _^_, min}
+use lib.Dec.{ltb, eqb}
+use lib.ListN.{length}
+use Rattle.job.specs.declared.Platform.{Platform}
+use Rattle.job.specs.Number.{pick}
+use Rattle.etf.specs.Lists.{upto, filter}
+
+-- the digit of p at binary place i
+abbrev pub binaryPlace : ℕ → ℕ → ℕ
+binaryPlace i p = (p / 2 ^ i) % 2
+
+-- hypercube (01: "Cube: the number of binary places in which p and q differ"); processors are below 16, so they have four
+unfoldable pub hypercubeHops : ℕ → ℕ → ℕ
+hypercubeHops p q = length (filter (λ i. not (eqb (binaryPlace i p) (binaryPlace i q))) (upto 4))
+
+-- the difference of p and q
+unfoldable pub difference : ℕ → ℕ → ℕ
+difference p q = pick (ltb p q) (q - p) (p - q)
+
+-- 01: "Ring: the smaller of the difference d of p and q, and n - d"
+unfoldable pub ringHops : ℕ → ℕ → ℕ → ℕ
+ringHops n p q = min (difference p q) (n - difference p q)
+
+-- the hops between two different processors, by topology: 0 complete (01: "Flat: 1 hop"), 1 hypercube (01: cube), 2 ring
+unfoldable pub hops : Platform → ℕ → ℕ → ℕ
+hops r p q = pick (eqb (r .topology) 0) 1 (pick (eqb (r .topology) 1) (hypercubeHops p q) (ringHops (r .processors) p q))
+
+-- 01: "The cost from a board to itself is 0. Between boards p and q it is c times the hops."
+unfoldable pub cost : Platform → ℕ → ℕ → ℕ
+cost r p q = pick (eqb p q) 0 (r .unit * hops r p q)
+
+-- 01: "the costs are laid out as a square of sixteen rows of sixteen, 0 where a board is absent"
+unfoldable pub square : Platform → List (List ℕ)
+square r = map (λ p. map (λ q. pick (ltb p (r .processors) && ltb q (r .processors)) (cost r p q) 0) (upto 16)) (upto 16)
