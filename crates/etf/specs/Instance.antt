@@ -1,6 +1,7 @@
 -- What is to be planned: tasks and their edges, processors and the cost of a message between any two of them.
+use mathlib.Core.Path.{_≡_}
 use mathlib.Core.List.{List}
-use Prim.Native.Nat.{ℕ, _*_, _≤_, _<_}
+use Prim.Native.Nat.{ℕ, suc, _*_, _≤_, _<_}
 use lib.Dec.{eqb}
 use lib.ListN.{length, getD}
 use Rattle.job.specs.Job.{Edge}
@@ -32,6 +33,10 @@ module _ (I : Instance) where
   -- the time of an edge's messages from processor p to q (01: "A message bundle takes its count times the cost from the sender's board to the receiver's")
   unfoldable pub messageTime : Edge → ℕ → ℕ → ℕ
   messageTime e p q = e .count * I .cost p q
+
+  -- the tasks are a chain: each but the first has the one before it among its predecessors
+  abbrev pub IsChain : Type 0
+  IsChain = (T : ℕ) → suc T < tasks → (e : Edge) × (e ∈ I .edges) × (e .from ≡ T) × (e .to ≡ suc T)
 
   -- at least one processor and one task, durations of at least 1, edges from lower to higher tasks, the order that of the tasks
   pub record WellFormed : Type 0 where
