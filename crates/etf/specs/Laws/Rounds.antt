@@ -74,7 +74,7 @@ module _ (I : Instance) where
   unfolding complete
   complete-at ps h T k = all-at (placed ps) (upto (tasks I)) h T (upto-in (tasks I) T k)
 
-  complete-of : (ps : List Placement) → ((T : ℕ) → T < tasks I → Holds (placed ps T)) → Holds (complete I ps)
+  pub complete-of : (ps : List Placement) → ((T : ℕ) → T < tasks I → Holds (placed ps T)) → Holds (complete I ps)
   unfolding complete
   complete-of ps f = all-of (placed ps) (upto (tasks I)) (λ T h. f T (upto-of (tasks I) T h))
 
@@ -89,7 +89,7 @@ module _ (I : Instance) where
 
   module _ (W : WellFormed I) where
     -- were a task left when no finish is ahead, the lowest such task would be ready, and processor 0 free
-    none-stuck : (cm : ℕ) (ps : List Placement) → ((v : Placement) → v ∈ ps → cm < finish I v → ⊥)
+    pub none-stuck : (cm : ℕ) (ps : List Placement) → ((v : Placement) → v ∈ ps → cm < finish I v → ⊥)
         → ((T P : ℕ) → Ready I cm ps T → P < I .processors → Holds (free I cm ps P) → ⊥) → Holds (complete I ps)
     unfolding free
     none-stuck cm ps y z = complete-of ps (λ T h. below (suc T) h T (omega arith))
