@@ -9,4 +9,5 @@ pub mod Ideal
 pub mod Topology
 pub mod OfJob
 pub mod Cases
+pub mod Jobs
 pub mod Laws

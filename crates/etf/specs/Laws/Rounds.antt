@@ -20,7 +20,7 @@ use Rattle.etf.specs.Laws.Turn.{Ready, Put, Turn, rest, put, tick, stuck
 
 module _ (I : Instance) where
   -- the number of tasks that are not placed
-  left : List Placement → ℕ
+  unfoldable pub left : List Placement → ℕ
   left ps = sum (tasks I) (λ T. one-if (not (placed ps T)))
 
   -- the number of finishes after cm
@@ -33,7 +33,7 @@ module _ (I : Instance) where
   one-not : (a b : Bool) → (Holds b → Holds a) → one-if (not a) ≤ one-if (not b)
   one-not a b h = one-if-le (not a) (not b) (λ k. fails b (λ q. not-both a k (h q)))
 
-  left-put : (cm : ℕ) (ps : List Placement) (u : Placement) → Put I cm ps u → left (u ∷ ps) < left ps
+  pub left-put : (cm : ℕ) (ps : List Placement) (u : Placement) → Put I cm ps u → left (u ∷ ps) < left ps
   unfolding left
   left-put cm ps u K =
       sum-less (tasks I) (u .task) (λ T. one-if (not (placed (u ∷ ps) T))) (λ T. one-if (not (placed ps T)))
