@@ -64,3 +64,12 @@ module _ (I : Instance) where
       (pick (any (λ u. any (overlap u) ps) ps) (some 12)
       (pick (any (λ e. any (λ u. any (early e u) ps) ps) (I .edges)) (some 13)
       none))
+
+-- the conditions of the refusal table (01: "no number comes without its condition")
+pub data Because (I : Instance) (ps : List Placement) : ℕ → Type 0 where
+  no-processor : (u : Placement) → u ∈ ps → I .processors ≤ u .processor → Because I ps 10
+  too-late : (u : Placement) → u ∈ ps → latestStart < u .start → Because I ps 11
+  overlaps : (u v : Placement) → u ∈ ps → v ∈ ps → ¬ (u .task ≡ v .task) → u .processor ≡ v .processor
+      → v .start < finish I u → u .start < finish I v → Because I ps 12
+  too-early : (e : Edge) → e ∈ I .edges → (u v : Placement) → u ∈ ps → v ∈ ps → u .task ≡ e .from → v .task ≡ e .to
+      → v .start < finish I u + messageTime I e (u .processor) (v .processor) → Because I ps 13

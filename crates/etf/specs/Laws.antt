@@ -7,7 +7,14 @@ pub mod Turn
 pub mod Sound
 pub mod Rounds
 pub mod Ticks
-pub mod Chain
+pub mod Short
+pub mod Walk
+pub mod Back
+pub mod Dearest
+pub mod Planned
+pub mod Count
+pub mod Bound
 pub mod Checker
 pub mod Times
 pub mod Costs
+pub mod OfJob

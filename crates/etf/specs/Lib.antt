@@ -9,5 +9,10 @@ pub mod Ideal
 pub mod Topology
 pub mod OfJob
 pub mod Cases
+pub mod Placing
+pub mod Verdict
+pub mod Chains
+pub mod Walks
+pub mod Bound
 pub mod Jobs
 pub mod Laws

@@ -6,7 +6,7 @@ use Prim.Native.Nat.{ℕ, zero, suc, _+_, _*_, max}
 use lib.Dec.{leb, ltb, eqb}
 use Rattle.job.specs.Number.{pick}
 use Rattle.job.specs.Job.{Edge}
-use Rattle.etf.specs.Lists.{upto, any, all, filter, best}
+use Rattle.etf.specs.Lists.{upto, all, filter, best}
 use Rattle.etf.specs.Instance.{Instance, tasks, into}
 use Rattle.etf.specs.Schedule.{Placement, placed, placementOf, finish, arrival}
 

@@ -44,6 +44,10 @@ module _ (I : Instance) where
   unfoldable pub end : List Placement → ℕ
   end ps = greatest finish ps
 
-  -- the placements of all tasks, by task number
+  -- the schedule that gives each task a processor and a start, by task number (01: "A plan gives each step a board .. and a start")
+  unfoldable pub scheduleOf : (ℕ → ℕ) → (ℕ → ℕ) → List Placement
+  scheduleOf processor start = map (λ T. record { task = T; processor = processor T; start = start T }) (upto (tasks I))
+
+  -- a schedule of all tasks, listed by task number
   unfoldable pub byTask : List Placement → List Placement
-  byTask ps = map (placementOf ps) (upto (tasks I))
+  byTask ps = scheduleOf (λ T. placementOf ps T .processor) (λ T. placementOf ps T .start)

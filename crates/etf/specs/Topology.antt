@@ -1,7 +1,7 @@
 -- Link costs (01: "Link costs").
 use mathlib.Core.Bool.{not, _&&_}
 use mathlib.Core.List.{List, map}
-use Prim.Native.Nat.{ℕ, zero, suc, _+_, _-_, _*_, _/_, _%_, _^_, min}
+use Prim.Native.Nat.{ℕ, _-_, _*_, _/_, _%_, _^_, min}
 use lib.Dec.{ltb, eqb}
 use lib.ListN.{length}
 use Rattle.job.specs.declared.Platform.{Platform}

@@ -5,31 +5,23 @@ use mathlib.Core.Logic.{_⊎_, inl, inr}
 use mathlib.Core.Bool.{Bool, true, false, not, _&&_, _||_}
 use mathlib.Core.Option.{Option, none, some, orElse, Option·some-injective, Option·none-ne-some, Option·some-ne-none}
 use mathlib.Core.List.{List, [], _∷_}
-use Prim.Native.Nat.{ℕ, suc, _+_, _*_, _≤_, _<_}
+use Prim.Native.Nat.{ℕ, _+_, _≤_, _<_}
 use native.Mathlib.Omega.{arith}
 use lib.Dec.{leb, ltb, eqb, leb→le, nleb→lt, ltb→lt, lt→ltb, nltb→le, eqb→eq}
 use lib.Dec.{T as Holds}
-use lib.ListN.{length}
 use Rattle.job.specs.Number.{pick}
 use Rattle.job.specs.Job.{Edge}
-use Rattle.etf.specs.Lists.{_∈_, here, there, upto, any, filter}
-use Rattle.etf.specs.Instance.{Instance, WellFormed, tasks, messageTime}
-use Rattle.etf.specs.Schedule.{Placement, placed, placementOf, finish, messageTimeTo, byTask}
-use Rattle.etf.specs.Rule.{begin, run, planned}
-use Rattle.etf.specs.Checker.{latestStart, firstAnswer, Apart, InTime, Keeps, misplaced, overlap, early, check}
-use Rattle.etf.specs.Laws.Tests.{either, not-both, fails, both, first, second, pick-yes, pick-no, eq→eqb, neqb→ne, le-or-lt}
-use Rattle.etf.specs.Laws.Lists.{for-cons, in-nothing, any-of, any-one, map-of, upto-of}
-use Rattle.etf.specs.Laws.Placements.{placed-head, placed-more, placed-less, placement-of, into-in, arrival-ge}
-use Rattle.etf.specs.Laws.Sound.{Once, Sound, sound-start, sound-run}
-use Rattle.etf.specs.Laws.Sound.{Apart as NewerLater}
-use Rattle.etf.specs.Laws.Rounds.{all-placed}
+use Rattle.etf.specs.Lists.{_∈_, here, there, any}
+use Rattle.etf.specs.Instance.{Instance, WellFormed, messageTime}
+use Rattle.etf.specs.Schedule.{Placement, placementOf, finish, messageTimeTo, byTask}
+use Rattle.etf.specs.Rule.{planned}
+use Rattle.etf.specs.Checker.{latestStart, firstAnswer, Apart, InTime, Keeps, misplaced, overlap, early, check, Because, no-processor, too-late, overlaps, too-early}
+use Rattle.etf.specs.Laws.Tests.{not-both, fails, both, first, second, eq→eqb, neqb→ne, le-or-lt}
+use Rattle.etf.specs.Laws.Lists.{for-cons, in-nothing, any-not, any-one}
+use Rattle.etf.specs.Laws.Placements.{into-in, arrival-ge}
+use Rattle.etf.specs.Laws.Sound.{Sound}
 use Rattle.etf.specs.Laws.Ticks.{placement-once}
-
--- ---- tests on lists
-
--- where a test passes on no member, it fails on each
-any-not : {A : Type 0} (p : A → Bool) (l : List A) → Holds (not (any p l)) → (a : A) → a ∈ l → Holds (not (p a))
-any-not p l h a k = fails (p a) (λ t. not-both (any p l) h (any-of p l a k t))
+use Rattle.etf.specs.Laws.Planned.{apart-pairs, last-clock, sound-plan, byTask-of}
 
 -- what `firstAnswer` gives, where M a o says what answer o at a member a means: none at each member, or a number at one of them
 data First {A : Type 0} (M : A → Option ℕ → Type 0) (l : List A) : Option ℕ → Type 0 where
@@ -59,17 +51,6 @@ parts-in : (a b c d : Bool) → Holds (not a) → Holds b → Holds (not c) → 
 parts-in a b false false p q r s = both (not a) (b && true) p (both b true q tt)
 parts-in a b false true p q r s = absurd s
 parts-in a b true d p q r s = absurd r
-
--- ---- why the checker refuses
-
--- why the checker refuses with a number
-pub data Because (I : Instance) (ps : List Placement) : ℕ → Type 0 where
-  no-processor : (u : Placement) → u ∈ ps → I .processors ≤ u .processor → Because I ps 10
-  too-late : (u : Placement) → u ∈ ps → latestStart < u .start → Because I ps 11
-  overlaps : (u v : Placement) → u ∈ ps → v ∈ ps → ¬ (u .task ≡ v .task) → u .processor ≡ v .processor → v .start < finish I u → u .start < finish I v
-      → Because I ps 12
-  too-early : (e : Edge) → e ∈ I .edges → (u v : Placement) → u ∈ ps → v ∈ ps → u .task ≡ e .from → v .task ≡ e .to
-      → v .start < finish I u + messageTime I e (u .processor) (v .processor) → Because I ps 13
 
 module _ (I : Instance) where
   -- ---- each test as what it says
@@ -252,59 +233,14 @@ refused-because I ps k e = go (check I ps) (check-is I ps) e
 
 -- ---- the planner's plan
 
--- a task that is not placed stands nowhere in the list
-times-none : (T : ℕ) (ps : List Placement) → Holds (not (placed ps T)) → length (filter (λ u. eqb (u .task) T) ps) ≡ 0
-unfolding filter
-times-none T [] h = refl
-times-none T (u ∷ ps) h =
-    rw (pick-no (eqb (u .task) T) (u ∷ filter (λ v. eqb (v .task) T) ps) (filter (λ v. eqb (v .task) T) ps) other)
-    (times-none T ps (fails (placed ps T) (λ k. not-both (placed (u ∷ ps) T) h (placed-more u ps T k))))
-  where
-    other : Holds (not (eqb (u .task) T))
-    other =
-        fails (eqb (u .task) T)
-        (λ k. not-both (placed (u ∷ ps) T) h (subst (λ S. Holds (placed (u ∷ ps) S)) (eqb→eq (u .task) T k) (placed-head u ps)))
-
--- a placed task stands in the list once
-times-once : (T : ℕ) (ps : List Placement) → Once ps → Holds (placed ps T) → length (filter (λ u. eqb (u .task) T) ps) ≡ 1
-unfolding filter
-times-once T [] o h = absurd (in-nothing (placement-of [] T h .0))
-times-once T (u ∷ ps) o h = go (either (eqb (u .task) T)) (λ k. times-once T ps (o .1) k)
-  where
-    go : Holds (eqb (u .task) T) ⊎ Holds (not (eqb (u .task) T)) → (Holds (placed ps T) → length (filter (λ v. eqb (v .task) T) ps) ≡ 1)
-        → length (filter (λ v. eqb (v .task) T) (u ∷ ps)) ≡ 1
-    go (inl k) r =
-        rw (pick-yes (eqb (u .task) T) (u ∷ filter (λ v. eqb (v .task) T) ps) (filter (λ v. eqb (v .task) T) ps) k)
-        (ap suc (times-none T ps (subst (λ S. Holds (not (placed ps S))) (eqb→eq (u .task) T k) (o .0))))
-    go (inr k) r =
-        rw (pick-no (eqb (u .task) T) (u ∷ filter (λ v. eqb (v .task) T) ps) (filter (λ v. eqb (v .task) T) ps) k)
-        (r (placed-less u ps T (neqb→ne (u .task) T k) h))
-
 module _ (I : Instance) where
-  -- two placements on one processor are apart: one of them is the newer
-  apart-pairs : (ps : List Placement) → NewerLater I ps → (u v : Placement) → u ∈ ps → v ∈ ps → ¬ (u .task ≡ v .task) → u .processor ≡ v .processor
-      → Apart I u v
-  apart-pairs (w ∷ ps) a u v (here d) (here e) ne p = absurd (ne (ap (λ (x : Placement). x .task) (d ∙ sym e)))
-  apart-pairs (w ∷ ps) a u v (here d) (there k) ne p = inr (rw d (a .0 v k (sym p ∙ ap (λ (x : Placement). x .processor) d)))
-  apart-pairs (w ∷ ps) a u v (there h) (here e) ne p = inl (rw e (a .0 u h (p ∙ ap (λ (x : Placement). x .processor) e)))
-  apart-pairs (w ∷ ps) a u v (there h) (there k) ne p = apart-pairs ps (a .1) u v h k ne p
-
-  -- the clock after the last round
-  last-clock : ℕ
-  last-clock = run I (2 * tasks I) begin .clock
-
-  -- what holds after each round holds of the plan
-  sound-plan : WellFormed I → Sound I last-clock (planned I)
-  unfolding last-clock planned
-  sound-plan W = sound-run I W (2 * tasks I) begin (sound-start I)
-
   -- a sound schedule keeps the rules, if no start is too late
   sound-keeps : (cm : ℕ) (ps : List Placement) → Sound I cm ps → ((u : Placement) → u ∈ ps → u .start ≤ latestStart) → Keeps I ps
   unfolding messageTimeTo
   sound-keeps cm ps S b = record {
     on-processor = λ u h. S .in-range u h .1;
     not-late = b;
-    apart = apart-pairs ps (S .apart);
+    apart = apart-pairs I ps (S .apart);
     in-time = λ e l u v h k f t.
         let s : placementOf ps (e .from) ≡ u = ap (placementOf ps) (sym f) ∙ placement-once ps (S .once) u h in
         omega (
@@ -324,18 +260,7 @@ module _ (I : Instance) where
     in-time = λ e l u v h k. K .in-time e l u v (i u h) (i v k);
   }
 
-  -- what stands in the plan by task number stands in the plan
-  byTask-of : WellFormed I → (u : Placement) → u ∈ byTask I (planned I) → u ∈ planned I
-  unfolding byTask
-  byTask-of W u h =
-      let z = map-of (placementOf (planned I)) (upto (tasks I)) u h in
-      subst (λ v. v ∈ planned I) (sym (z .2)) (placement-of (planned I) (z .0) (all-placed I W (z .0) (upto-of (tasks I) (z .0) (z .1))) .0)
-
 -- the planner's plan keeps the rules, if no start is too late
 pub planned-keeps : (I : Instance) → WellFormed I → ((u : Placement) → u ∈ planned I → u .start ≤ latestStart) → Keeps I (byTask I (planned I))
 planned-keeps I W b =
-    keeps-some I (planned I) (byTask I (planned I)) (byTask-of I W) (sound-keeps I (last-clock I) (planned I) (sound-plan I W) b)
-
--- each task is placed exactly once
-pub placed-once : (I : Instance) → WellFormed I → (T : ℕ) → T < tasks I → length (filter (λ u. eqb (u .task) T) (planned I)) ≡ 1
-placed-once I W T b = times-once T (planned I) (sound-plan I W .once) (all-placed I W T b)
+    keeps-some I (planned I) (byTask I (planned I)) (byTask-of I W) (sound-keeps I (last-clock I W) (planned I) (sound-plan I W) b)

@@ -1,16 +1,18 @@
 -- What the words for lists mean for members.
-use mathlib.Core.Path.{_≡_, refl, sym, ap, subst}
+use mathlib.Core.Path.{_≡_, refl, sym, ap, _∙_, subst}
 use mathlib.Core.Logic.{_⊎_, inl, inr}
 use mathlib.Core.Bool.{Bool, true, false, not, _&&_, _||_}
 use mathlib.Core.Option.{Option, none, some}
 use mathlib.Core.List.{List, [], _∷_, _++_, map, flatMap}
-use Prim.Native.Nat.{ℕ, zero, suc, _≤_, _<_, max}
+use Prim.Native.Nat.{ℕ, zero, suc, _≤_, _<_}
 use native.Mathlib.Omega.{arith}
-use lib.Dec.{ltb, ltb→lt, nltb→le}
+use lib.Dec.{ltb, eqb, ltb→lt, lt→ltb, nltb→le, eqb→eq}
 use lib.Dec.{T as Holds}
+use lib.ListN.{length, getD, length-append, length-map, List·getD-append}
+use lib.Seq.{getD-at}
 use Rattle.job.specs.Number.{pick}
 use Rattle.etf.specs.Lists.{_∈_, here, there, upto, any, all, filter, greatest, keep, best}
-use Rattle.etf.specs.Laws.Tests.{either, not-both, fails, both, first, second, or-left, or-right, or-cases, pick-yes, le-or-lt}
+use Rattle.etf.specs.Laws.Tests.{not-both, fails, both, first, second, or-left, or-right, or-cases, pick-yes, eq→eqb, le-or-lt}
 
 -- what holds of the head and of each member of the tail holds of each member
 pub for-cons : {A : Type 0} (P : A → Type 0) {x : A} {xs : List A}
@@ -50,6 +52,9 @@ any-one p (x ∷ xs) t = go (or-cases (p x) (any p xs) t) (any-one p xs)
         → (a : _) × (a ∈ (x ∷ xs)) × Holds (p a)
     go (inl h) r = (x, here refl, h)
     go (inr h) r = (r h .0, there (r h .1), r h .2)
+
+pub any-not : {A : Type 0} (p : A → Bool) (l : List A) → Holds (not (any p l)) → (a : A) → a ∈ l → Holds (not (p a))
+any-not p l h a k = fails (p a) (λ t. not-both (any p l) h (any-of p l a k t))
 
 pub all-of : {A : Type 0} (p : A → Bool) (l : List A) → ((a : A) → a ∈ l → Holds (p a)) → Holds (all p l)
 unfolding all
@@ -150,6 +155,48 @@ map-of {A} f (x ∷ xs) b h =
     for-cons (λ c. (a : A) × (a ∈ (x ∷ xs)) × (c ≡ f a)) (x, here refl, refl)
     (λ c k. let r = map-of f xs c k in (r .0, there (r .1), r .2)) b h
 
+-- ---- lengths and places
+
+pub length-filter-most : {A : Type 0} (p : A → Bool) (l : List A) → length (filter p l) ≤ length l
+unfolding filter
+length-filter-most p [] = omega arith
+length-filter-most p (x ∷ l) = go (p x) (length-filter-most p l)
+  where
+    go : (b : Bool) → length (filter p l) ≤ length l → length (pick b (x ∷ filter p l) (filter p l)) ≤ suc (length l)
+    go true r = omega arith
+    go false r = omega arith
+
+pub length-upto : (n : ℕ) → length (upto n) ≡ n
+unfolding upto
+length-upto zero = refl
+length-upto (suc n) = omega (arith, length-append (upto n) (n ∷ []), length-upto n)
+
+pub upto-at : (n i d : ℕ) → i < n → getD (upto n) i d ≡ i
+unfolding upto
+upto-at zero i d h = absurd (omega arith)
+upto-at (suc n) i d h = go (le-or-lt (suc i) n) (λ k. upto-at n i d k)
+  where
+    go : (i < n) ⊎ (n < suc i) → (i < n → getD (upto n) i d ≡ i) → getD (upto n ++ (n ∷ [])) i d ≡ i
+    go (inl k) r = List·getD-append (upto n) (n ∷ []) d i (omega (arith, length-upto n)) ∙ r k
+    go (inr k) r = let e : i ≡ n = omega arith in getD-at (upto n) n [] d i (length-upto n ∙ sym e) ∙ sym e
+
+pub map-at : {A B : Type 0} (f : A → B) (l : List A) (i : ℕ) (a : A) (b : B) → i < length l → getD (map f l) i b ≡ f (getD l i a)
+map-at f [] i a b h = absurd (omega arith)
+map-at f (x ∷ l) zero a b h = refl
+map-at f (x ∷ l) (suc i) a b h = map-at f l i a b (omega arith)
+
+-- the entry at place i of f 0, f 1, .. , f (n - 1)
+pub map-upto-at : {B : Type 0} (f : ℕ → B) (n i : ℕ) (b : B) → i < n → getD (map f (upto n)) i b ≡ f i
+map-upto-at f n i b h = map-at f (upto n) i 0 b (omega (arith, length-upto n)) ∙ ap f (upto-at n i 0 h)
+
+pub map-upto-length : {B : Type 0} (f : ℕ → B) (n : ℕ) → length (map f (upto n)) ≡ n
+map-upto-length f n = length-map (upto n) f ∙ length-upto n
+
+-- a member of a list stands at a place in it
+pub place : {A : Type 0} (d : A) (l : List A) (a : A) → a ∈ l → (i : ℕ) × (i < length l) × (getD l i d ≡ a)
+place d (x ∷ xs) a (here e) = (0, omega arith, sym e)
+place d (x ∷ xs) a (there h) = let z = place d xs a h in (suc (z .0), omega (arith, z .1), z .2)
+
 -- ---- the best member
 
 -- beating is an order: of two, not each beats the other, and what does not beat b does not beat what b does not beat
@@ -200,3 +247,54 @@ by-greatest f = record {
   through = λ a b c h k.
       fails (ltb (f c) (f a)) (λ q. absurd (omega (arith, nltb→le (f b) (f a) h, nltb→le (f c) (f b) k, ltb→lt (f c) (f a) q)));
 }
+
+-- and so is greater by f, then less by g
+pub by-greatest-then-least : {A : Type 0} (f g : A → ℕ) → Order (λ a b. ltb (f b) (f a) || (eqb (f a) (f b) && ltb (g a) (g b)))
+by-greatest-then-least {A} f g = record {
+  one-way = λ a b h. fails (beats b a) (λ k. apart a b (of a b h) (of b a k));
+  through = λ a b c h k. fails (beats a c) (λ q. along a b c (of-not a b h) (of-not b c k) (of a c q));
+}
+  where
+    beats : A → A → Bool
+    beats a b = ltb (f b) (f a) || (eqb (f a) (f b) && ltb (g a) (g b))
+
+    Beats : A → A → Type 0
+    Beats a b = (f b < f a) ⊎ ((f a ≡ f b) × (g a < g b))
+
+    of : (a b : A) → Holds (beats a b) → Beats a b
+    of a b h = split (or-cases (ltb (f b) (f a)) (eqb (f a) (f b) && ltb (g a) (g b)) h)
+      where
+        split : Holds (ltb (f b) (f a)) ⊎ Holds (eqb (f a) (f b) && ltb (g a) (g b)) → Beats a b
+        split (inl k) = inl (ltb→lt (f b) (f a) k)
+        split (inr k) =
+            inr (eqb→eq (f a) (f b) (first (eqb (f a) (f b)) (ltb (g a) (g b)) k), ltb→lt (g a) (g b) (second (eqb (f a) (f b)) (ltb (g a) (g b)) k))
+
+    of-not : (a b : A) → Holds (not (beats a b)) → Beats a b → ⊥
+    of-not a b h (inl k) =
+        not-both (beats a b) h (or-left (ltb (f b) (f a)) (eqb (f a) (f b) && ltb (g a) (g b)) (lt→ltb (f b) (f a) k))
+    of-not a b h (inr k) =
+        not-both (beats a b) h
+        (or-right (ltb (f b) (f a)) (eqb (f a) (f b) && ltb (g a) (g b))
+        (both (eqb (f a) (f b)) (ltb (g a) (g b)) (eq→eqb (f a) (f b) (k .0)) (lt→ltb (g a) (g b) (k .1))))
+
+    apart : (a b : A) → Beats a b → Beats b a → ⊥
+    apart a b (inl h) (inl k) = absurd (omega arith)
+    apart a b (inl h) (inr k) = absurd (omega arith)
+    apart a b (inr h) (inl k) = absurd (omega arith)
+    apart a b (inr h) (inr k) = absurd (omega arith)
+
+    along : (a b c : A) → (Beats a b → ⊥) → (Beats b c → ⊥) → Beats a c → ⊥
+    along a b c x y z = cases (le-or-lt (f a) (f b)) (le-or-lt (f b) (f c)) (le-or-lt (f b) (f a)) (le-or-lt (f c) (f b)) z
+      where
+        cases : (f a ≤ f b) ⊎ (f b < f a) → (f b ≤ f c) ⊎ (f c < f b) → (f b ≤ f a) ⊎ (f a < f b) → (f c ≤ f b) ⊎ (f b < f c) → Beats a c → ⊥
+        cases (inr p) q r s z = x (inl p)
+        cases (inl p) (inr q) r s z = y (inl q)
+        cases (inl p) (inl q) r s (inl z) = absurd (omega arith)
+        cases (inl p) (inl q) (inr r) s (inr z) = absurd (omega arith)
+        cases (inl p) (inl q) (inl r) (inr s) (inr z) = absurd (omega arith)
+        cases (inl p) (inl q) (inl r) (inl s) (inr z) = ties (le-or-lt (g b) (g a)) (le-or-lt (g c) (g b))
+          where
+            ties : (g b ≤ g a) ⊎ (g a < g b) → (g c ≤ g b) ⊎ (g b < g c) → ⊥
+            ties (inr u) v = x (inr (omega arith, u))
+            ties (inl u) (inr v) = y (inr (omega arith, v))
+            ties (inl u) (inl v) = absurd (omega arith)

@@ -1,13 +1,13 @@
 -- The placement of a task in a schedule, the edges into a task and their arrivals, and busy processors.
-use mathlib.Core.Path.{_≡_, refl, sym, ap, _∙_, subst}
+use mathlib.Core.Path.{_≡_, refl}
 use mathlib.Core.Logic.{_⊎_, inl, inr}
-use mathlib.Core.Bool.{not, _&&_, _||_}
+use mathlib.Core.Bool.{not, _&&_}
 use mathlib.Core.List.{List, [], _∷_}
-use Prim.Native.Nat.{ℕ, _+_, _≤_, _<_}
+use Prim.Native.Nat.{ℕ, _≤_, _<_}
 use lib.Dec.{eqb, eqb→eq}
 use lib.Dec.{T as Holds}
 use Rattle.job.specs.Job.{Edge}
-use Rattle.etf.specs.Lists.{_∈_, here, there, any, filter}
+use Rattle.etf.specs.Lists.{_∈_, here, there, any}
 use Rattle.etf.specs.Instance.{Instance, duration, into}
 use Rattle.etf.specs.Schedule.{Placement, placed, placementOf, finish, messageTimeTo, reach, arrival}
 use Rattle.etf.specs.Cover.{running, busy}

@@ -3,7 +3,7 @@ use mathlib.Core.Path.{_≡_, refl, ap, _∙_}
 use mathlib.Core.Logic.{_⊎_, inl, inr}
 use mathlib.Core.Bool.{Bool, true, false, not}
 use mathlib.Core.List.{List, [], _∷_}
-use Prim.Native.Nat.{ℕ, zero, suc, _+_, _*_, _≤_, _<_}
+use Prim.Native.Nat.{ℕ, zero, suc, _+_, _-_, _*_, _≤_, _<_}
 use native.Mathlib.Omega.{arith}
 use native.Mathlib.Nat.{zero-add, suc-add}
 use lib.Dec.{leb, ltb, eqb, ltb→lt, lt→ltb, le→leb}
@@ -150,26 +150,25 @@ module _ (I : Instance) where
         go nx (stuck y z) r = kept (none-stuck (st .clock) (st .placements) y z)
 
     -- 2m - 1 rounds, or more, place every task
-    pub enough-rounds : (k : ℕ) → 2 * tasks I ≤ suc k → Holds (complete I (run I k (begin) .placements))
+    pub enough-rounds : (k : ℕ) → 2 * tasks I ≤ suc k → Holds (complete I (run I k begin .placements))
     unfolding left live
     enough-rounds k h =
-        run-complete k (begin)
+        run-complete k begin
         (omega (arith, sum-each (tasks I) 1, sum-le (tasks I) (λ T. one-if (not (placed [] T))) (λ T. 1) (λ T h. one-if-most (not (placed [] T)))))
 
     -- every task is placed in the plan
     pub all-placed : (T : ℕ) → T < tasks I → Holds (placed (planned I) T)
     unfolding planned
-    all-placed = complete-at (run I (2 * tasks I) (begin) .placements) (enough-rounds (2 * tasks I) (omega arith))
+    all-placed = complete-at (run I (2 * tasks I) begin .placements) (enough-rounds (2 * tasks I) (omega arith))
 
     run-on : (a b : ℕ) (st : State) → run I (a + b) st ≡ run I b (run I a st)
     unfolding run
     run-on zero b st = rw (zero-add b) refl
     run-on (suc a) b st = rw (suc-add a b) (run-on a b (round I st))
 
-    -- further rounds change nothing
-    pub more-rounds : (j : ℕ) → run I (2 * tasks I + j) (begin) .placements ≡ planned I
-    unfolding planned
-    more-rounds j =
-        ap (λ (st : State). st .placements)
-        (run-on (2 * tasks I) j (begin)
-        ∙ run-rest j (run I (2 * tasks I) (begin)) (enough-rounds (2 * tasks I) (omega arith)))
+    -- from 2m - 1 rounds on, further rounds change nothing
+    pub settled : (k : ℕ) → 2 * tasks I ≤ suc k → run I k begin ≡ run I (2 * tasks I - 1) begin
+    settled k h =
+        let j = 2 * tasks I - 1 in
+        let e : k ≡ j + (k - j) = omega arith in
+        ap (λ (x : ℕ). run I x begin) e ∙ run-on j (k - j) begin ∙ run-rest (k - j) (run I j begin) (enough-rounds j (omega arith))

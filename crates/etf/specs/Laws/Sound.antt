@@ -26,9 +26,9 @@ Once (u ∷ ps) = Holds (not (placed ps (u .task))) × Once ps
 
 module _ (I : Instance) where
   -- of two placements on one processor, the older finishes by the newer one's start
-  abbrev pub Apart : List Placement → Type 0
-  Apart [] = Unit {0}
-  Apart (u ∷ ps) = ((v : Placement) → v ∈ ps → v .processor ≡ u .processor → finish I v ≤ u .start) × Apart ps
+  abbrev pub NewerLater : List Placement → Type 0
+  NewerLater [] = Unit {0}
+  NewerLater (u ∷ ps) = ((v : Placement) → v ∈ ps → v .processor ≡ u .processor → finish I v ≤ u .start) × NewerLater ps
 
   -- all predecessors of task T are placed
   abbrev pub Opened : List Placement → ℕ → Type 0
@@ -36,7 +36,7 @@ module _ (I : Instance) where
 
   pub record Sound (cm : ℕ) (ps : List Placement) : Type 0 where
     pub once : Once ps
-    pub apart : Apart ps
+    pub apart : NewerLater ps
     pub in-range : (u : Placement) → u ∈ ps → (u .task < tasks I) × (u .processor < I .processors)
     -- a placed task's predecessors are placed, and their messages arrive by its start
     pub opened : (u : Placement) → u ∈ ps → Opened ps (u .task)

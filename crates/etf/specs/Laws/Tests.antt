@@ -61,3 +61,7 @@ neqb→ne m n h e = not-both (eqb m n) h (eq→eqb m n e)
 -- the order of two numbers, decided
 pub le-or-lt : (a b : ℕ) → (a ≤ b) ⊎ (b < a)
 le-or-lt a b = elim (either (leb a b)) [ inl h ↦ inl (leb→le a b h) | inr h ↦ inr (nleb→lt a b h) ]
+
+pub not-not : (b : Bool) → Holds b → Holds (not (not b))
+not-not true h = tt
+not-not false h = h

@@ -94,12 +94,12 @@ module _ (I : Instance) (W : WellFormed I) (D B : ℕ)
   pub finish-most : (u : Placement) → u ∈ planned I → finish I u + B ≤ tasks I * (D + B)
   unfolding planned
   finish-most u h =
-      let L = low-run (2 * tasks I) (begin) (sound-start I) low-start in
+      let L = low-run (2 * tasks I) begin (sound-start I) low-start in
       omega (arith, L .finish-by u h, mul-le-mul-right {m = L .count} {n = tasks I} (D + B) (omega (arith, L .counted)))
 
   planned-range : (u : Placement) → u ∈ planned I → (u .task < tasks I) × (u .processor < I .processors)
   unfolding planned
-  planned-range = sound-run I W (2 * tasks I) (begin) (sound-start I) .in-range
+  planned-range = sound-run I W (2 * tasks I) begin (sound-start I) .in-range
 
   -- the arrival of a task at a processor
   pub arrival-most : (T P : ℕ) → T < tasks I → P < I .processors → arrival I (planned I) T P ≤ tasks I * (D + B)

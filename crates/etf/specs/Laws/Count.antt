@@ -2,18 +2,16 @@
 use mathlib.Core.Path.{_≡_, refl, _∙_}
 use mathlib.Core.Logic.{_⊎_, inl, inr}
 use mathlib.Core.Bool.{not}
-use mathlib.Core.List.{List, _∷_, map}
+use mathlib.Core.List.{List, _∷_}
 use Prim.Native.Nat.{ℕ, zero, suc, _+_, _-_, _*_, _≤_, _<_}
 use native.Mathlib.Omega.{arith}
 use lib.Dec.{T as Holds}
-use lib.ListN.{replicate, length-replicate, getD-replicate}
-use Rattle.job.specs.Job.{Edge}
-use Rattle.etf.specs.Lists.{_∈_, upto, any}
-use Rattle.etf.specs.Instance.{Instance, WellFormed, tasks, duration, IsChain}
+use Rattle.etf.specs.Lists.{_∈_, any}
+use Rattle.etf.specs.Instance.{Instance, WellFormed, tasks, IsChain}
 use Rattle.etf.specs.Schedule.{Placement, placed, placementOf, finish}
 use Rattle.etf.specs.Rule.{State, begin, complete, round, run, roundsIn, rounds}
 use Rattle.etf.specs.Laws.Tests.{either, not-both, fails, pick-yes, pick-no, le-or-lt}
-use Rattle.etf.specs.Laws.Lists.{for-cons, in-nothing, upto-in, upto-of, map-in, map-of}
+use Rattle.etf.specs.Laws.Lists.{for-cons, in-nothing}
 use Rattle.etf.specs.Laws.Placements.{placement-head, placed-head, placed-more, placed-less, into-in}
 use Rattle.etf.specs.Laws.Turn.{Ready, Put, Tick, Turn, rest, put, tick, stuck, turn}
 use Rattle.etf.specs.Laws.Rounds.{complete-at, complete-of, none-stuck, enough-rounds}
@@ -211,42 +209,3 @@ module _ (I : Instance) where
         go : (m : ℕ) → tasks I ≡ m → 1 ≤ m → suc (roundsIn I (2 * tasks I) begin) ≡ 2 * tasks I
         go zero e h = absurd (omega arith)
         go (suc d) e h = omega (arith, count-chain C d 0 (2 * tasks I) begin still (omega arith) (omega arith))
-
--- ---- chains of any length
-
--- m tasks of one tick in a chain, on n processors
-unfoldable pub chainOf : ℕ → ℕ → Instance
-chainOf n m = record {
-  processors = n;
-  durations = replicate m 1;
-  edges = map (λ T. record { from = T; to = suc T; count = 1 }) (upto (m - 1));
-  cost = λ p q. 0;
-  order = upto m;
-}
-
--- they are well-formed, and a chain
-pub chain-of : (n m : ℕ) → 1 ≤ n → 1 ≤ m → WellFormed (chainOf n m) × IsChain (chainOf n m)
-unfolding chainOf duration
-chain-of n m b h = (
-  record {
-    some-processor = b;
-    some-task = omega (arith, long);
-    takes-time = λ T q. omega (arith, getD-replicate m T one 0 (omega (arith, long)));
-    goes-up = λ e q. up e (map-of arrow (upto (m - 1)) e q);
-    has-all = λ T q. upto-in m T (omega (arith, long));
-    has-only = λ T q. omega (arith, long, upto-of m T q);
-  },
-  λ T q. (arrow T, map-in arrow (upto (m - 1)) T (upto-in (m - 1) T (omega (arith, long))), refl, refl),
-)
-  where
-    one : ℕ
-    one = 1
-
-    long : tasks (chainOf n m) ≡ m
-    long = length-replicate m one
-
-    arrow : ℕ → Edge
-    arrow T = record { from = T; to = suc T; count = 1 }
-
-    up : (e : Edge) → (T : ℕ) × (T ∈ upto (m - 1)) × (e ≡ arrow T) → (e .from < e .to) × (e .to < tasks (chainOf n m))
-    up e z = rw (z .2) (omega arith, omega (arith, long, upto-of (m - 1) (z .0) (z .1)))

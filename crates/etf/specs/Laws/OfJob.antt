@@ -1,0 +1,36 @@
+-- The instance of an accepted job, its edges taken by their place in the list: what the laws on any instance ask for.
+use mathlib.Core.Path.{subst}
+use Prim.Native.Nat.{ℕ, _≤_, _<_}
+use native.Mathlib.Nat.{mul-le-mul}
+use lib.ListN.{length}
+use Rattle.job.specs.Job.{Edge, Job}
+use Rattle.job.specs.Accepted.{Accepted, edgeAt}
+use Rattle.etf.specs.Lists.{_∈_}
+use Rattle.etf.specs.Instance.{WellFormed, tasks, duration, messageTime}
+use Rattle.etf.specs.OfJob.{instance}
+use Rattle.etf.specs.Laws.Lists.{upto-in, upto-of, place}
+use Rattle.etf.specs.Laws.Costs.{cost-most}
+
+-- what holds of each edge of a job by its place holds of each edge
+each-edge : (j : Job) (P : Edge → Type 0) → ((i : ℕ) → i < length (j .edges) → P (edgeAt j i)) → (e : Edge) → e ∈ j .edges → P e
+each-edge j P f e h = let z = place (record { from = 0; to = 0; count = 0 }) (j .edges) e h in subst P (z .2) (f (z .0) (z .1))
+
+pub of-job : (j : Job) → Accepted j → WellFormed (instance j)
+unfolding instance duration
+of-job j a = record {
+  some-processor = a .some-processor;
+  some-task = a .some-task;
+  takes-time = a .long-enough;
+  goes-up = each-edge j (λ e. (e .from < e .to) × (e .to < length (j .tasks))) (λ i h. (a .forward i h, a .within i h));
+  has-all = upto-in (length (j .tasks));
+  has-only = upto-of (length (j .tasks));
+}
+
+pub short-tasks : (j : Job) → Accepted j → (T : ℕ) → T < tasks (instance j) → duration (instance j) T ≤ 1000000
+unfolding instance duration
+short-tasks j a = a .short-enough
+
+pub near-processors : (j : Job) → Accepted j → (e : Edge) → e ∈ instance j .edges → (p q : ℕ) → p < instance j .processors → q < instance j .processors
+    → messageTime (instance j) e p q ≤ 800000
+unfolding instance messageTime
+near-processors j a e h p q s t = mul-le-mul (each-edge j (λ d. d .count ≤ 1000) (a .few-messages) e h) (cost-most (j .platform) p q (a .few-processors) (a .small-unit) s t)
