@@ -13,6 +13,6 @@ pub mod Placing
 pub mod Verdict
 pub mod Chains
 pub mod Walks
-pub mod Bound
+pub mod WorstCase
 pub mod Jobs
 pub mod Laws
