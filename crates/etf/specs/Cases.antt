@@ -1,4 +1,5 @@
--- The worked cases of document 01 ("Ticks worked out") in one table, held to the definitions by computing them.
+-- The worked cases of document 01 ("Ticks worked out") in one table, held to the definitions by computing them; after them cases that its
+-- words settle and its list does not have.
 use mathlib.Core.Option.{bind}
 use mathlib.Core.Path.{_≡_, refl}
 use mathlib.Core.List.{List, [], _∷_, _++_, map, flatMap}
@@ -79,6 +80,13 @@ cases =
     -- shortcut 3, E with one task more: board 1 is promised to step 2 from 5 on, so it is not free at 3, and step 3 waits for board 0
     ∷ plan (rack 2 0 2) (3 ∷ 2 ∷ 2 ∷ 2 ∷ []) (link 0 1 1 ∷ link 0 2 1 ∷ link 0 3 1 ∷ [])
     (row 0 0 0 3 ∷ row 1 0 3 5 ∷ row 2 1 5 7 ∷ row 3 0 5 7 ∷ totals 7 2 2)
+    -- the walk begins with the lowest of two steps that finish last, 1 and not 2
+    ∷ plan (rack 2 0 1) (1 ∷ 3 ∷ 1 ∷ []) (link 0 1 1 ∷ link 0 2 2 ∷ []) (row 0 0 0 1 ∷ row 1 0 1 4 ∷ row 2 1 3 4 ∷ totals 4 1 2)
+    -- it takes the lowest of two idle boards, 0 and not 1
+    ∷ plan (rack 2 0 1) (1 ∷ 1 ∷ 1 ∷ []) (link 0 2 1 ∷ link 1 2 2 ∷ []) (row 0 0 0 1 ∷ row 1 1 0 1 ∷ row 2 1 2 3 ∷ totals 3 2 2)
+    -- and of two predecessors that arrive there at one tick the lowest, 0 and not 1
+    ∷ plan (rack 2 0 1) (1 ∷ 1 ∷ 1 ∷ []) (link 0 1 2 ∷ link 0 2 2 ∷ link 1 2 1 ∷ [])
+    (row 0 0 0 1 ∷ row 1 0 1 2 ∷ row 2 0 2 3 ∷ totals 3 2 3)
     -- shortcut 5: the step with the last number does not finish last
     ∷ plan (rack 2 0 0) (5 ∷ 1 ∷ []) [] (row 0 0 0 5 ∷ row 1 1 0 1 ∷ totals 5 0 0)
     ∷ []
