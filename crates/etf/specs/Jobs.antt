@@ -10,13 +10,15 @@ use Rattle.etf.specs.Lists.{_∈_}
 use Rattle.etf.specs.Instance.{WellFormed}
 use Rattle.etf.specs.Schedule.{Placement, finish, arrival, byTask}
 use Rattle.etf.specs.Rule.{planned}
+use Rattle.etf.specs.Dearest.{dearest}
 use Rattle.etf.specs.Checker.{Keeps, check}
 use Rattle.etf.specs.Topology.{cost}
 use Rattle.etf.specs.OfJob.{instance}
 use Rattle.etf.specs.Laws.Costs.{cost-most}
 use Rattle.etf.specs.Laws.Times.{finish-most, arrival-most}
 use Rattle.etf.specs.Laws.Checker.{keeps-yes, planned-keeps}
-use Rattle.etf.specs.Laws.OfJob.{of-job, short-tasks, near-processors}
+use Rattle.etf.specs.Laws.Dearest.{dearest-free}
+use Rattle.etf.specs.Laws.OfJob.{of-job, short-tasks, near-processors, one-processor}
 
 -- it is well formed
 pub well-formed : (j : Job) → Accepted j → WellFormed (instance j)
@@ -38,6 +40,10 @@ pub no-arrival-passes : (j : Job) → Accepted j → (T P : ℕ) → T < length 
 unfolding instance
 no-arrival-passes j a T P h p =
     omega (arith, arrival-most (instance j) (well-formed j a) 1000000 800000 (short-tasks j a) (near-processors j a) T P h p, a .few-tasks)
+
+-- 01: the dearest chain is 0 "with one board"
+pub none-with-one-processor : (j : Job) → j .platform .processors ≡ 1 → dearest (instance j) ≡ 0
+none-with-one-processor j e = dearest-free (instance j) (one-processor j e)
 
 -- the planner's plan keeps the rules
 pub plan-keeps : (j : Job) → Accepted j → Keeps (instance j) (byTask (instance j) (planned (instance j)))

@@ -1,5 +1,5 @@
 -- What the rounds come to: every task is placed exactly once, within 2m - 1 rounds.
-use mathlib.Core.Path.{_≡_, refl, sym, ap, _∙_}
+use mathlib.Core.Path.{_≡_, refl, sym, _∙_}
 use mathlib.Core.Bool.{not}
 use mathlib.Core.List.{map}
 use Prim.Native.Nat.{ℕ, suc, _-_, _*_, _≤_, _<_}
@@ -11,7 +11,7 @@ use Rattle.job.specs.Job.{Edge}
 use Rattle.etf.specs.Lists.{_∈_, upto, filter}
 use Rattle.etf.specs.Instance.{Instance, WellFormed, IsChain, tasks, duration}
 use Rattle.etf.specs.Schedule.{Placement}
-use Rattle.etf.specs.Rule.{State, begin, complete, run, planned, rounds}
+use Rattle.etf.specs.Rule.{begin, complete, run, planned, rounds}
 use Rattle.etf.specs.Laws.Lists.{upto-in, upto-of, map-in, map-of}
 use Rattle.etf.specs.Laws.Planned
 use Rattle.etf.specs.Laws.Rounds
@@ -26,15 +26,15 @@ module _ (I : Instance) (W : WellFormed I) where
   pub only-tasks : (u : Placement) → u ∈ planned I → u .task < tasks I
   only-tasks u h = Planned.sound-plan I W .in-range u h .0
 
-  -- 2m - 1 rounds are enough, and further rounds change nothing
-  pub settled : (k : ℕ) → 2 * tasks I ≤ suc k → run I k begin .placements ≡ planned I
-  unfolding planned
-  settled k h = ap (λ (st : State). st .placements) (Rounds.settled I W k h ∙ sym (Rounds.settled I W (2 * tasks I) (omega arith)))
+  -- 2m - 1 rounds are enough: further rounds change nothing
+  pub settled : (k : ℕ) → 2 * tasks I - 1 ≤ k → run I k begin ≡ run I (2 * tasks I) begin
+  settled k h = Rounds.settled I W k (omega arith) ∙ sym (Rounds.settled I W (2 * tasks I) (omega arith))
 
-  -- the rounds that the planner takes are those before which a task remains
+  -- the rounds that the planner takes: before each of them a task remains
   pub rounds-open : (k : ℕ) → k < rounds I → Holds (not (complete I (run I k begin .placements)))
   rounds-open = Count.rounds-open I W
 
+  -- and after them none
   pub rounds-complete : Holds (complete I (run I (rounds I) begin .placements))
   rounds-complete = Count.rounds-complete I W
 

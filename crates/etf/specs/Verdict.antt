@@ -1,5 +1,6 @@
 -- The checker's answer and the rules.
 use mathlib.Core.Path.{_≡_}
+use mathlib.Core.Logic.{_↔_}
 use mathlib.Core.Option.{none, some}
 use mathlib.Core.List.{List}
 use Prim.Native.Nat.{ℕ}
@@ -10,7 +11,7 @@ use Rattle.etf.specs.Laws.Checker.{yes-keeps, keeps-yes, refused-because
 
 module _ (I : Instance) (ps : List Placement) where
   -- the answer is a yes exactly if the rules hold
-  pub yes-exactly : (check I ps ≡ none → Keeps I ps) × (Keeps I ps → check I ps ≡ none)
+  pub yes-exactly : check I ps ≡ none ↔ Keeps I ps
   yes-exactly = (yes-keeps I ps, keeps-yes I ps)
 
   -- and a number only with its condition

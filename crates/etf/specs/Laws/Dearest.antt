@@ -1,15 +1,15 @@
 -- The dearest chain against all chains, by induction on how many edges a chain has.
-use mathlib.Core.Path.{_≡_, refl}
+use mathlib.Core.Path.{_≡_, refl, sym, ap, _∙_, subst}
 use mathlib.Core.Logic.{_⊎_, inl, inr}
 use mathlib.Core.List.{List, [], _∷_}
 use Prim.Native.Nat.{ℕ, zero, suc, _+_, _*_, _-_, _≤_, _<_}
 use native.Mathlib.Omega.{arith}
 use Rattle.job.specs.Job.{Edge}
-use Rattle.etf.specs.Lists.{upto, greatest}
+use Rattle.etf.specs.Lists.{_∈_, upto, greatest}
 use Rattle.etf.specs.Instance.{Instance, WellFormed, tasks, into}
 use Rattle.etf.specs.Dearest.{EndsAt, greatestCost, Chain, price, dearestTo, dearest}
 use Rattle.etf.specs.Laws.Tests.{le-or-lt}
-use Rattle.etf.specs.Laws.Lists.{greatest-ge, greatest-at, upto-in}
+use Rattle.etf.specs.Laws.Lists.{in-nothing, greatest-ge, greatest-at, upto-in}
 use Rattle.etf.specs.Laws.Placements.{into-of, into-in}
 
 module _ (I : Instance) where
@@ -67,3 +67,20 @@ module _ (I : Instance) where
           let s = chain-to (tasks I) (z .0) in
           (s .0, s .1, omega (arith, s .3, z .2, greatest-ge (dearestTo I (tasks I)) (upto (tasks I)) (z .0) (z .1)))
       go (inr h) = ([], tt, omega arith)
+
+  -- where no message costs anything no chain does
+  price-free : greatestCost I ≡ 0 → (es : List Edge) → price I es ≡ 0
+  unfolding price
+  price-free z [] = refl
+  price-free z (e ∷ es) = omega (arith, price-free z es, ap (λ x. e .count * x) z)
+
+  pub dearest-free : greatestCost I ≡ 0 → dearest I ≡ 0
+  dearest-free z = let c = chain-at in sym (c .2) ∙ price-free z (c .0)
+
+  pub dearest-none : I .edges ≡ [] → dearest I ≡ 0
+  unfolding price
+  dearest-none z = let c = chain-at in sym (c .2) ∙ empty (c .0) (c .1)
+    where
+      empty : (es : List Edge) → Chain I es → price I es ≡ 0
+      empty [] c = refl
+      empty (e ∷ es) c = absurd (in-nothing (subst (λ l. e ∈ l) z (c .0)))

@@ -1,15 +1,17 @@
 -- The instance of an accepted job, its edges taken by their place in the list: what the laws on any instance ask for.
-use mathlib.Core.Path.{subst}
+use mathlib.Core.Path.{_≡_, subst}
 use Prim.Native.Nat.{ℕ, _≤_, _<_}
+use native.Mathlib.Omega.{arith}
 use native.Mathlib.Nat.{mul-le-mul}
 use lib.ListN.{length}
 use Rattle.job.specs.Job.{Edge, Job}
 use Rattle.job.specs.Accepted.{Accepted, edgeAt}
-use Rattle.etf.specs.Lists.{_∈_}
+use Rattle.etf.specs.Lists.{_∈_, upto, greatest}
 use Rattle.etf.specs.Instance.{WellFormed, tasks, duration, messageTime}
+use Rattle.etf.specs.Dearest.{greatestCost}
 use Rattle.etf.specs.OfJob.{instance}
 use Rattle.etf.specs.Laws.Lists.{upto-in, upto-of, place}
-use Rattle.etf.specs.Laws.Costs.{cost-most}
+use Rattle.etf.specs.Laws.Costs.{cost-most, cost-self}
 
 -- what holds of each edge of a job by its place holds of each edge
 each-edge : (j : Job) (P : Edge → Type 0) → ((i : ℕ) → i < length (j .edges) → P (edgeAt j i)) → (e : Edge) → e ∈ j .edges → P e
@@ -34,3 +36,8 @@ pub near-processors : (j : Job) → Accepted j → (e : Edge) → e ∈ instance
     → messageTime (instance j) e p q ≤ 800000
 unfolding instance messageTime
 near-processors j a e h p q s t = mul-le-mul (each-edge j (λ d. d .count ≤ 1000) (a .few-messages) e h) (cost-most (j .platform) p q (a .few-processors) (a .small-unit) s t)
+
+-- one processor reaches itself alone
+pub one-processor : (j : Job) → j .platform .processors ≡ 1 → greatestCost (instance j) ≡ 0
+unfolding instance greatestCost greatest upto
+one-processor j e = rw e (omega (arith, cost-self (j .platform) 0))

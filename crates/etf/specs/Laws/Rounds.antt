@@ -28,6 +28,12 @@ module _ (I : Instance) where
   live cm [] = 0
   live cm (u ∷ ps) = live cm ps + one-if (ltb cm (finish I u))
 
+  -- at the start all tasks are left, and no more
+  pub left-start : left [] ≤ tasks I
+  unfolding left
+  left-start =
+      omega (arith, sum-each (tasks I) 1, sum-le (tasks I) (λ T. one-if (not (placed [] T))) (λ T. 1) (λ T h. one-if-most (not (placed [] T))))
+
   -- ---- a placing brings down `left`, a move of the clock `live`
 
   one-not : (a b : Bool) → (Holds b → Holds a) → one-if (not a) ≤ one-if (not b)
@@ -151,10 +157,8 @@ module _ (I : Instance) where
 
     -- 2m - 1 rounds, or more, place every task
     pub enough-rounds : (k : ℕ) → 2 * tasks I ≤ suc k → Holds (complete I (run I k begin .placements))
-    unfolding left live
-    enough-rounds k h =
-        run-complete k begin
-        (omega (arith, sum-each (tasks I) 1, sum-le (tasks I) (λ T. one-if (not (placed [] T))) (λ T. 1) (λ T h. one-if-most (not (placed [] T)))))
+    unfolding live
+    enough-rounds k h = run-complete k begin (omega (arith, left-start))
 
     -- every task is placed in the plan
     pub all-placed : (T : ℕ) → T < tasks I → Holds (placed (planned I) T)

@@ -1,6 +1,5 @@
 -- How late a planned task can finish: each task placed adds at most its duration and one message time.
 use mathlib.Core.Logic.{_⊎_, inl, inr}
-use mathlib.Core.Bool.{not}
 use mathlib.Core.List.{List, [], _∷_}
 use Prim.Native.Nat.{ℕ, zero, suc, _+_, _*_, _≤_, _<_}
 use native.Mathlib.Omega.{arith}
@@ -8,15 +7,14 @@ use native.Mathlib.Nat.{mul-le-mul-right}
 use Rattle.job.specs.Job.{Edge}
 use Rattle.etf.specs.Lists.{_∈_}
 use Rattle.etf.specs.Instance.{Instance, WellFormed, tasks, duration, messageTime}
-use Rattle.etf.specs.Schedule.{Placement, placed, placementOf, finish, messageTimeTo, arrival}
+use Rattle.etf.specs.Schedule.{Placement, placementOf, finish, messageTimeTo, arrival}
 use Rattle.etf.specs.Rule.{State, begin, round, run, planned}
 use Rattle.etf.specs.Laws.Tests.{le-or-lt}
 use Rattle.etf.specs.Laws.Lists.{for-cons, in-nothing}
-use Rattle.etf.specs.Laws.Sums.{one-if, one-if-most, sum-le, sum-each}
 use Rattle.etf.specs.Laws.Placements.{placement-of, into-of, arrival-at}
 use Rattle.etf.specs.Laws.Turn.{Put, Tick, Turn, rest, put, tick, stuck, turn}
 use Rattle.etf.specs.Laws.Sound.{Opened, Sound, sound-start, sound-round, sound-run}
-use Rattle.etf.specs.Laws.Rounds.{left, left-put, all-placed}
+use Rattle.etf.specs.Laws.Rounds.{left, left-start, left-put, all-placed}
 
 module _ (I : Instance) (W : WellFormed I) (D B : ℕ)
     (short : (T : ℕ) → T < tasks I → duration I T ≤ D)
@@ -44,10 +42,9 @@ module _ (I : Instance) (W : WellFormed I) (D B : ℕ)
     pub finish-by : (u : Placement) → u ∈ ps → finish I u + B ≤ count * (D + B)
 
   low-start : Low 0 []
-  unfolding left
   low-start = record {
     count = 0;
-    counted = omega (arith, sum-each (tasks I) 1, sum-le (tasks I) (λ T. one-if (not (placed [] T))) (λ T. 1) (λ T h. one-if-most (not (placed [] T))));
+    counted = omega (arith, left-start I);
     clock-by = omega arith;
     finish-by = λ u h. absurd (in-nothing h);
   }

@@ -6,7 +6,6 @@ use native.Mathlib.Nat.{add-zero, zero-add}
 use native.Mathlib.Omega.{arith}
 use lib.ListN.{length, set, drop, length-append}
 use lib.Seq.{sets, sets-eq}
-use Rattle.job.specs.Number.{bytes}
 use Rattle.job.specs.Job.{Edge}
 use Rattle.job.specs.Write.{values, stepBytes, linkBytes}
 use Rattle.job.specs.Laws.Number.{length-bytes}
