@@ -10,7 +10,7 @@ use Rattle.etf.specs.Lists.{upto, any, all, filter, greatest, keep, best
 use Rattle.etf.specs.Instance.{Instance, duration, into, messageTime}
 use Rattle.etf.specs.Schedule.{Placement, placed, placementOf, finish, messageTimeTo, arrival, end, scheduleOf, byTask}
 use Rattle.etf.specs.Rule.{atMost, move, settle, nextMoment, free, finished, ready, pair, pairs, choice, complete, round, run, planned}
-use Rattle.etf.specs.Cover.{running, busy, idle, short, latestShort, lowestIdle, later, latestInto, back, walk, lastTask, cover}
+use Rattle.etf.specs.Cover.{running, busy, idle, someIdle, latestIdleTick, lowestIdle, later, latestInto, back, walk, lastTask, cover}
 use Rattle.etf.specs.Dearest.{greatestCost, dearestTo, dearest}
 use Rattle.etf.specs.Topology.{hypercubeHops, difference, ringHops, hops, cost}
 use Rattle.etf.specs.OfJob.{instance}
@@ -93,5 +93,5 @@ cases =
 
 -- each question of the table is answered by its lines
 pub cases-hold : map (λ (c : Case). answer (c .question)) cases ≡ map (λ (c : Case). c .lines) cases
-unfolding cases answer printed instance upto any all filter greatest keep best duration into messageTime placed placementOf messageTimeTo arrival end scheduleOf byTask atMost move settle nextMoment free finished ready pair pairs choice complete round run planned running busy idle short latestShort lowestIdle later latestInto back walk lastTask cover greatestCost dearestTo dearest hypercubeHops difference ringHops hops cost bind flatMap
+unfolding cases answer printed instance upto any all filter greatest keep best duration into messageTime placed placementOf messageTimeTo arrival end scheduleOf byTask atMost move settle nextMoment free finished ready pair pairs choice complete round run planned running busy idle someIdle latestIdleTick lowestIdle later latestInto back walk lastTask cover greatestCost dearestTo dearest hypercubeHops difference ringHops hops cost bind flatMap
 cases-hold = refl

@@ -9,17 +9,17 @@ use Rattle.job.specs.Number.{pick}
 use Rattle.job.specs.Job.{Edge}
 use Rattle.etf.specs.Lists.{_∈_, upto, any, filter, best}
 use Rattle.etf.specs.Instance.{Instance, tasks, duration, into}
-use Rattle.etf.specs.Schedule.{Placement, placementOf, finish, messageTimeTo, reach}
+use Rattle.etf.specs.Schedule.{Placement, placementOf, finish, messageTimeTo, reach, end}
 use Rattle.etf.specs.Rule.{planned}
 
--- what starts at s and takes d runs in tick t, from t to t + 1
+-- something that starts at s and takes d is running in tick t, from t to t + 1
 unfoldable pub running : ℕ → ℕ → ℕ → Bool
 running s d t = leb s t && ltb t (s + d)
 
--- a step of the walk: the edge that it goes back along, and the processor idle in the short tick
+-- one move of the walk: the edge that it goes back along, and the idle processor that it goes through
 pub record Back : Type 0 where
   pub edge : Edge
-  pub idler : ℕ
+  pub through : ℕ
 
 module _ (I : Instance) (ps : List Placement) where
   -- processor P runs a task in tick t
@@ -31,29 +31,34 @@ module _ (I : Instance) (ps : List Placement) where
   idle t = filter (λ P. not (busy P t)) (upto (I .processors))
 
   -- 01: "A tick t is short if some board runs nothing from t to t + 1"
-  unfoldable pub short : ℕ → Bool
-  short t = any (λ P. not (busy P t)) (upto (I .processors))
+  unfoldable pub someIdle : ℕ → Bool
+  someIdle t = any (λ P. not (busy P t)) (upto (I .processors))
 
   -- the latest short tick before s; none if no tick before s is short
-  unfoldable pub latestShort : ℕ → Option ℕ
-  latestShort zero = none
-  latestShort (suc t) = pick (short t) (some t) (latestShort t)
+  unfoldable pub latestIdleTick : ℕ → Option ℕ
+  latestIdleTick zero = none
+  latestIdleTick (suc t) = pick (someIdle t) (some t) (latestIdleTick t)
 
   -- ---- any walk (02 §7)
 
-  -- the walk may go back from task T along edge e by way of processor P: with t the latest short tick before T's start, P is
-  -- idle in t, and the messages of e, which comes from a predecessor of T, would reach P after t
-  pub record Step (T P : ℕ) (e : Edge) : Type 0 where
+  -- 02 §7: "each idle board at that tick, and each predecessor whose bundle would reach it after that tick, would serve": what the walk may
+  -- do at task T; `tick` is the latest short tick before its start
+  pub record MayGoBack (T : ℕ) (b : Back) : Type 0 where
     pub tick : ℕ
-    pub latest : latestShort (placementOf ps T .start) ≡ some tick
-    pub idler : P ∈ idle tick
-    pub edge : e ∈ into I T
-    pub after : tick < reach I ps P e
+    pub is-latest : latestIdleTick (placementOf ps T .start) ≡ some tick
+    pub is-idle : b .through ∈ idle tick
+    pub is-into : b .edge ∈ into I T
+    pub reaches-after : tick < reach I ps (b .through) (b .edge)
 
   -- a walk from task T whose message times sum to C; it stops where no tick before the start is short
   pub data Walk : ℕ → ℕ → Type 0 where
-    stop : (T : ℕ) → latestShort (placementOf ps T .start) ≡ none → Walk T 0
-    step : (T P : ℕ) (e : Edge) (C : ℕ) → Step T P e → Walk (e .from) C → Walk T (messageTimeTo I ps P e + C)
+    stops : (T : ℕ) → latestIdleTick (placementOf ps T .start) ≡ none → Walk T 0
+    goes : (T : ℕ) (b : Back) (C : ℕ) → MayGoBack T b → Walk (b .edge .from) C → Walk T (messageTimeTo I ps (b .through) (b .edge) + C)
+
+  -- a task that finishes last, by which a walk begins
+  pub record FinishesLast (T : ℕ) : Type 0 where
+    pub below : T < tasks I
+    pub at-end : finish I (placementOf ps T) ≡ end I ps
 
   -- ---- the walk of document 01
 
@@ -73,17 +78,18 @@ module _ (I : Instance) (ps : List Placement) where
   -- how the walk goes back from task T; none where it stops
   unfoldable pub back : ℕ → Option Back
   back T =
-      bind (latestShort (placementOf ps T .start)) (λ t. bind (lowestIdle t) (λ P. bind (latestInto T P) (λ e. some (record { edge = e; idler = P }))))
+      bind (latestIdleTick (placementOf ps T .start))
+      (λ t. bind (lowestIdle t) (λ P. bind (latestInto T P) (λ e. some (record { edge = e; through = P }))))
 
-  -- the message times on the walk from task T, in at most k steps
+  -- what the walk from task T adds to C, in at most k moves (01: "add its bundle time to P, and repeat")
   unfoldable pub walk : ℕ → ℕ → ℕ
   walk zero T = 0
-  walk (suc k) T = elim (back T) [ none ↦ 0 | some b ↦ messageTimeTo I ps (b .idler) (b .edge) + walk k (b .edge .from) ]
+  walk (suc k) T = elim (back T) [ none ↦ 0 | some b ↦ messageTimeTo I ps (b .through) (b .edge) + walk k (b .edge .from) ]
 
   -- 01: "the step that finishes last, lowest number on a tie"
   unfoldable pub lastTask : Option ℕ
   lastTask = best (λ S T. ltb (finish I (placementOf ps T)) (finish I (placementOf ps S))) (upto (tasks I))
 
--- C of the planner's plan: the walk from its last task. An edge rises, so m steps are enough (`Walks.antt`).
+-- C of the planner's schedule: the walk from its last task. Edges go from lower to higher tasks, so it goes back fewer than m times (`Walks.antt`).
 unfoldable pub cover : Instance → ℕ
 cover I = elim (lastTask I (planned I)) [ none ↦ 0 | some T ↦ walk I (planned I) (tasks I) T ]

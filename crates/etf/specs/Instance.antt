@@ -35,8 +35,8 @@ module _ (I : Instance) where
   messageTime e p q = e .count * I .cost p q
 
   -- the tasks are a chain: each but the first has the one before it among its predecessors
-  abbrev pub IsChain : Type 0
-  IsChain = (T : ℕ) → suc T < tasks → (e : Edge) × (e ∈ I .edges) × (e .from ≡ T) × (e .to ≡ suc T)
+  abbrev pub TaskChain : Type 0
+  TaskChain = (T : ℕ) → suc T < tasks → (e : Edge) × (e ∈ I .edges) × (e .from ≡ T) × (e .to ≡ suc T)
 
   -- at least one processor and one task, durations of at least 1, edges from lower to higher tasks, the order that of the tasks
   pub record WellFormed : Type 0 where

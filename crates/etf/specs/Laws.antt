@@ -7,7 +7,7 @@ pub mod Turn
 pub mod Sound
 pub mod Rounds
 pub mod Ticks
-pub mod Short
+pub mod Idle
 pub mod Walk
 pub mod Back
 pub mod Dearest

@@ -9,7 +9,7 @@ use lib.Dec.{T as Holds}
 use lib.ListN.{length, replicate, length-replicate, getD-replicate}
 use Rattle.job.specs.Job.{Edge}
 use Rattle.etf.specs.Lists.{_∈_, upto, filter}
-use Rattle.etf.specs.Instance.{Instance, WellFormed, IsChain, tasks, duration}
+use Rattle.etf.specs.Instance.{Instance, WellFormed, TaskChain, tasks, duration}
 use Rattle.etf.specs.Schedule.{Placement}
 use Rattle.etf.specs.Rule.{begin, complete, run, planned, rounds}
 use Rattle.etf.specs.Laws.Lists.{upto-in, upto-of, map-in, map-of}
@@ -43,7 +43,7 @@ module _ (I : Instance) (W : WellFormed I) where
   rounds-most = omega (arith, Count.rounds-most I W)
 
   -- and as many on a chain
-  pub chain-rounds : IsChain I → rounds I ≡ 2 * tasks I - 1
+  pub chain-rounds : TaskChain I → rounds I ≡ 2 * tasks I - 1
   chain-rounds C = omega (arith, Count.chain-rounds I W C)
 
 -- m tasks of one tick in a chain, on n processors
@@ -57,7 +57,7 @@ chainOf n m = record {
 }
 
 -- they are well-formed, and a chain
-pub chain-of : (n m : ℕ) → 1 ≤ n → 1 ≤ m → WellFormed (chainOf n m) × IsChain (chainOf n m)
+pub chain-of : (n m : ℕ) → 1 ≤ n → 1 ≤ m → WellFormed (chainOf n m) × TaskChain (chainOf n m)
 unfolding chainOf duration
 chain-of n m b h = (
   record {

@@ -1,4 +1,4 @@
--- The walk of document 01 is a walk: where it steps, it may, and it stops only where no tick before the start is short. For a processor
+-- The walk of document 01 is a walk: where it goes back, it may, and it stops only where no tick before the start is short. For a processor
 -- idle before a task's start, some predecessor's messages reach it later.
 use mathlib.Core.Path.{_≡_, refl, ap}
 use mathlib.Core.Logic.{_⊎_, inl, inr}
@@ -13,12 +13,12 @@ use Rattle.job.specs.Job.{Edge}
 use Rattle.etf.specs.Lists.{_∈_, best}
 use Rattle.etf.specs.Instance.{Instance, WellFormed, tasks, into}
 use Rattle.etf.specs.Schedule.{Placement, placed, placementOf, messageTimeTo, reach, arrival}
-use Rattle.etf.specs.Cover.{Back, busy, idle, short, latestShort, Step, Walk, stop, step, lowestIdle, later, latestInto, back, walk}
+use Rattle.etf.specs.Cover.{Back, busy, idle, someIdle, latestIdleTick, MayGoBack, Walk, stops, goes, lowestIdle, later, latestInto, back, walk}
 use Rattle.etf.specs.Laws.Tests.{not-both, or-left, le-or-lt}
 use Rattle.etf.specs.Laws.Lists.{Order, Best, nothing, found, best-is, by-least, by-greatest-then-least}
 use Rattle.etf.specs.Laws.Placements.{placement-of, arrival-at}
 use Rattle.etf.specs.Laws.Sound.{Sound}
-use Rattle.etf.specs.Laws.Short.{idle-of, short-of, LatestShort, never, at, latest-short}
+use Rattle.etf.specs.Laws.Idle.{idle-of, idle-in, LatestIdleTick, never, at, latest-idle-tick}
 use Rattle.etf.specs.Laws.Walk.{source}
 
 module _ (I : Instance) (ps : List Placement) (cm : ℕ) (S : Sound I cm ps) (whole : (T : ℕ) → T < tasks I → Holds (placed ps T)) (W : WellFormed I) where
@@ -47,59 +47,59 @@ module _ (I : Instance) (ps : List Placement) (cm : ℕ) (S : Sound I cm ps) (wh
 
   -- how the walk goes on from task T
   pub data BackIs (T : ℕ) : Option Back → Type 0 where
-    ends : latestShort I ps (placementOf ps T .start) ≡ none → BackIs T none
-    goes : (b : Back) → Step I ps T (b .idler) (b .edge) → BackIs T (some b)
+    nowhere : latestIdleTick I ps (placementOf ps T .start) ≡ none → BackIs T none
+    along : (b : Back) → MayGoBack I ps T b → BackIs T (some b)
 
   pub back-is : (T : ℕ) → T < tasks I → BackIs T (back I ps T)
   unfolding back lowestIdle latestInto bind
-  back-is T b = tick (latestShort I ps (placementOf ps T .start)) refl (latest-short I ps (placementOf ps T .start))
+  back-is T b = tick (latestIdleTick I ps (placementOf ps T .start)) refl (latest-idle-tick I ps (placementOf ps T .start))
     where
-      along : (t P : ℕ) → latestShort I ps (placementOf ps T .start) ≡ some t → t < placementOf ps T .start → P ∈ idle I ps t
-          → (o : Option Edge) → Best (later I ps P) (into I T) o → BackIs T (bind o (λ e. some (record { edge = e; idler = P })))
-      along t P e ts i o L = last o L
+      edge-of : (t P : ℕ) → latestIdleTick I ps (placementOf ps T .start) ≡ some t → t < placementOf ps T .start → P ∈ idle I ps t
+          → (o : Option Edge) → Best (later I ps P) (into I T) o → BackIs T (bind o (λ e. some (record { edge = e; through = P })))
+      edge-of t P e ts i o L = last o L
         where
           late : (l : Edge) × (l ∈ into I T) × (t < reach I ps P l)
           late = let p = idle-of I ps t P i in arrival-at I ps T P t (held-up T P t b (p .0) (p .1) ts)
 
-          last : (o : Option Edge) → Best (later I ps P) (into I T) o → BackIs T (bind o (λ d. some (record { edge = d; idler = P })))
+          last : (o : Option Edge) → Best (later I ps P) (into I T) o → BackIs T (bind o (λ d. some (record { edge = d; through = P })))
           last o (nothing z) = absurd (z (late .0) (late .1))
           last o (found d h low) =
-              goes (record { edge = d; idler = P })
-              (record { tick = t; latest = e; idler = i; edge = h; after = omega (arith, late .2, reach-most P (late .0) d (low (late .0) (late .1))) })
+              along (record { edge = d; through = P })
+              (record { tick = t; is-latest = e; is-idle = i; is-into = h; reaches-after = omega (arith, late .2, reach-most P (late .0) d (low (late .0) (late .1))) })
 
-      idler : (t : ℕ) → latestShort I ps (placementOf ps T .start) ≡ some t → t < placementOf ps T .start → Holds (short I ps t)
+      idler : (t : ℕ) → latestIdleTick I ps (placementOf ps T .start) ≡ some t → t < placementOf ps T .start → Holds (someIdle I ps t)
           → (o : Option ℕ) → Best ltb (idle I ps t) o
-          → BackIs T (bind o (λ P. bind (best (later I ps P) (into I T)) (λ e. some (record { edge = e; idler = P }))))
-      idler t e ts sh o (nothing z) = let q = short-of I ps t sh in absurd (z (q .0) (q .1))
+          → BackIs T (bind o (λ P. bind (best (later I ps P) (into I T)) (λ e. some (record { edge = e; through = P }))))
+      idler t e ts sh o (nothing z) = let q = idle-in I ps t sh in absurd (z (q .0) (q .1))
       idler t e ts sh o (found P i low) =
-          along t P e ts i (best (later I ps P) (into I T)) (best-is (later I ps P) (later-order P) (into I T))
+          edge-of t P e ts i (best (later I ps P) (into I T)) (best-is (later I ps P) (later-order P) (into I T))
 
-      tick : (o : Option ℕ) → latestShort I ps (placementOf ps T .start) ≡ o → LatestShort I ps (placementOf ps T .start) o
-          → BackIs T (bind o (λ t. bind (best ltb (idle I ps t)) (λ P. bind (best (later I ps P) (into I T)) (λ e. some (record { edge = e; idler = P })))))
-      tick o e (never z) = ends e
+      tick : (o : Option ℕ) → latestIdleTick I ps (placementOf ps T .start) ≡ o → LatestIdleTick I ps (placementOf ps T .start) o
+          → BackIs T (bind o (λ t. bind (best ltb (idle I ps t)) (λ P. bind (best (later I ps P) (into I T)) (λ e. some (record { edge = e; through = P })))))
+      tick o e (never z) = nowhere e
       tick o e (at t ts sh z) = idler t e ts sh (best ltb (idle I ps t)) (best-is ltb (by-least (λ x. x)) (idle I ps t))
 
   -- it stops only where no tick before the start is short
-  pub stopped : (T : ℕ) → T < tasks I → back I ps T ≡ none → latestShort I ps (placementOf ps T .start) ≡ none
+  pub stopped : (T : ℕ) → T < tasks I → back I ps T ≡ none → latestIdleTick I ps (placementOf ps T .start) ≡ none
   stopped T b e = go (rw e at (back-is T b))
     where
-      go : BackIs T none → latestShort I ps (placementOf ps T .start) ≡ none
-      go (ends z) = z
+      go : BackIs T none → latestIdleTick I ps (placementOf ps T .start) ≡ none
+      go (nowhere z) = z
 
-  -- the walk of document 01, with steps enough, is a walk
+  -- the walk of document 01, with moves enough, is a walk
   pub walk-is : (k T : ℕ) → T < k → T < tasks I → Walk I ps T (walk I ps k T)
   unfolding walk
   walk-is zero T h b = absurd (omega arith)
   walk-is (suc k) T h b = go (back I ps T) (back-is T b) (λ x y z. walk-is k x y z)
     where
       go : (o : Option Back) → BackIs T o → ((x : ℕ) → x < k → x < tasks I → Walk I ps x (walk I ps k x))
-          → Walk I ps T (elim o [ none ↦ 0 | some v ↦ messageTimeTo I ps (v .idler) (v .edge) + walk I ps k (v .edge .from) ])
-      go o (ends z) r = stop T z
-      go o (goes v s) r =
-          let f = source I ps cm S whole W T (v .edge) (s .edge) in
-          step T (v .idler) (v .edge) (walk I ps k (v .edge .from)) s (r (v .edge .from) (omega arith) (f .1))
+          → Walk I ps T (elim o [ none ↦ 0 | some v ↦ messageTimeTo I ps (v .through) (v .edge) + walk I ps k (v .edge .from) ])
+      go o (nowhere z) r = stops T z
+      go o (along v s) r =
+          let f = source I ps cm S whole W T (v .edge) (s .is-into) in
+          goes T v (walk I ps k (v .edge .from)) s (r (v .edge .from) (omega arith) (f .1))
 
-  -- and any number of steps above T gives the same
+  -- and any number of moves above T gives the same
   pub walk-enough : (k j T : ℕ) → T < k → T < j → T < tasks I → walk I ps k T ≡ walk I ps j T
   unfolding walk
   walk-enough zero j T h i b = absurd (omega arith)
@@ -107,9 +107,9 @@ module _ (I : Instance) (ps : List Placement) (cm : ℕ) (S : Sound I cm ps) (wh
   walk-enough (suc k) (suc j) T h i b = go (back I ps T) (back-is T b) (λ x y z w. walk-enough k j x y z w)
     where
       go : (o : Option Back) → BackIs T o → ((x : ℕ) → x < k → x < j → x < tasks I → walk I ps k x ≡ walk I ps j x)
-          → _≡_ {A = ℕ} (elim o [ none ↦ 0 | some v ↦ messageTimeTo I ps (v .idler) (v .edge) + walk I ps k (v .edge .from) ])
-          (elim o [ none ↦ 0 | some v ↦ messageTimeTo I ps (v .idler) (v .edge) + walk I ps j (v .edge .from) ])
-      go o (ends z) r = refl
-      go o (goes v s) r =
-          let f = source I ps cm S whole W T (v .edge) (s .edge) in
+          → _≡_ {A = ℕ} (elim o [ none ↦ 0 | some v ↦ messageTimeTo I ps (v .through) (v .edge) + walk I ps k (v .edge .from) ])
+          (elim o [ none ↦ 0 | some v ↦ messageTimeTo I ps (v .through) (v .edge) + walk I ps j (v .edge .from) ])
+      go o (nowhere z) r = refl
+      go o (along v s) r =
+          let f = source I ps cm S whole W T (v .edge) (s .is-into) in
           omega (arith, r (v .edge .from) (omega arith) (omega arith) (f .1))

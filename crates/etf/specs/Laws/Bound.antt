@@ -12,12 +12,13 @@ use Rattle.etf.specs.Rule.{planned}
 use Rattle.etf.specs.Cover.{Walk}
 use Rattle.etf.specs.Checker.{Apart}
 use Rattle.etf.specs.Ideal.{Ideal, makespan}
-use Rattle.etf.specs.Laws.Lists.{greatest-ge, upto-in}
+use Rattle.etf.specs.Laws.Tests.{le-or-lt}
+use Rattle.etf.specs.Laws.Lists.{greatest-ge, greatest-at, upto-in, upto-of}
 use Rattle.etf.specs.Laws.Sums.{sum}
 use Rattle.etf.specs.Laws.Placements.{into-in, arrival-ge}
 use Rattle.etf.specs.Laws.Ticks.{idlers, rival-work, our-work}
 use Rattle.etf.specs.Laws.Walk.{walk-bound}
-use Rattle.etf.specs.Laws.Planned.{apart-pairs, last-clock, sound-plan, whole, home, on-processor, by-end}
+use Rattle.etf.specs.Laws.Planned.{apart-pairs, last-clock, sound-plan, whole, home, on-processor, by-end, last-task}
 
 -- work and idle ticks make up n E; f is when the ideal schedule finishes our last task
 add-up : (n q E F f C work idle : ℕ) → n ≡ suc q → n * E ≤ work + idle → work ≤ n * F → idle ≤ q * f + n * C → f ≤ F
@@ -75,3 +76,19 @@ module _ (I : Instance) (W : WellFormed I) where
           ⊎ (placementOf (planned I) T .start + duration I T ≤ placementOf (planned I) S .start)
       in-turn S T s t (inl k) = inl (omega (arith, ap (duration I) (home I W S s .1)))
       in-turn S T s t (inr k) = inr (omega (arith, ap (duration I) (home I W T t .1)))
+
+  -- and its makespan is the plan's end
+  pub own-makespan : makespan I own-ideal ≡ end I (planned I)
+  unfolding makespan own-ideal
+  own-makespan = go (le-or-lt (end I (planned I)) (makespan I own-ideal)) (le-or-lt (makespan I own-ideal) (end I (planned I)))
+    where
+      go : (end I (planned I) ≤ makespan I own-ideal) ⊎ (makespan I own-ideal < end I (planned I))
+          → (makespan I own-ideal ≤ end I (planned I)) ⊎ (end I (planned I) < makespan I own-ideal) → makespan I own-ideal ≡ end I (planned I)
+      go (inl a) (inl b) = omega arith
+      go (inr a) b =
+          let t = last-task I W in
+          absurd (omega (arith, t .2 .at-end, by-makespan own-ideal (t .0) (t .2 .below), ap (duration I) (home I W (t .0) (t .2 .below) .1)))
+      go (inl a) (inr b) =
+          let z = greatest-at (λ T. placementOf (planned I) T .start + duration I T) (upto (tasks I)) (end I (planned I)) b in
+          let h = upto-of (tasks I) (z .0) (z .1) in
+          absurd (omega (arith, z .2, by-end I W (z .0) h, ap (duration I) (home I W (z .0) h .1)))

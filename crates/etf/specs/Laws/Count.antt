@@ -7,7 +7,7 @@ use Prim.Native.Nat.{ℕ, zero, suc, _+_, _-_, _*_, _≤_, _<_}
 use native.Mathlib.Omega.{arith}
 use lib.Dec.{T as Holds}
 use Rattle.etf.specs.Lists.{_∈_, any}
-use Rattle.etf.specs.Instance.{Instance, WellFormed, tasks, IsChain}
+use Rattle.etf.specs.Instance.{Instance, WellFormed, tasks, TaskChain}
 use Rattle.etf.specs.Schedule.{Placement, placed, placementOf, finish}
 use Rattle.etf.specs.Rule.{State, begin, complete, round, run, roundsIn, rounds}
 use Rattle.etf.specs.Laws.Tests.{either, not-both, fails, pick-yes, pick-no, le-or-lt}
@@ -103,7 +103,7 @@ module _ (I : Instance) where
     running-complete : (k : ℕ) (st : State) → suc k ≡ tasks I → Running k st → Holds (complete I (st .placements))
     running-complete k st e R = complete-of I (st .placements) (λ T h. R .early T (omega arith))
 
-    module _ (C : IsChain I) where
+    module _ (C : TaskChain I) where
       -- of a ready task that is not the first, the one before it is placed and has finished
       before : (cm : ℕ) (ps : List Placement) (T : ℕ) → Ready I cm ps (suc T) → Holds (placed ps T) × (finish I (placementOf ps T) ≤ cm)
       before cm ps T R =
@@ -199,7 +199,7 @@ module _ (I : Instance) where
           )
 
     -- a chain takes 2m - 1
-    pub chain-rounds : IsChain I → suc (rounds I) ≡ 2 * tasks I
+    pub chain-rounds : TaskChain I → suc (rounds I) ≡ 2 * tasks I
     unfolding rounds placed any
     chain-rounds C = go (tasks I) refl (W .some-task)
       where

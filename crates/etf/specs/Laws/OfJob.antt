@@ -1,13 +1,15 @@
 -- The instance of an accepted job, its edges taken by their place in the list: what the laws on any instance ask for.
-use mathlib.Core.Path.{_≡_, subst}
+use mathlib.Core.Path.{_≡_, ap, _∙_, subst}
 use Prim.Native.Nat.{ℕ, _≤_, _<_}
 use native.Mathlib.Omega.{arith}
 use native.Mathlib.Nat.{mul-le-mul}
 use lib.ListN.{length}
+use Rattle.job.specs.declared.Platform.{Platform}
 use Rattle.job.specs.Job.{Edge, Job}
 use Rattle.job.specs.Accepted.{Accepted, edgeAt}
 use Rattle.etf.specs.Lists.{_∈_, upto, greatest}
 use Rattle.etf.specs.Instance.{WellFormed, tasks, duration, messageTime}
+use Rattle.etf.specs.Topology.{cost}
 use Rattle.etf.specs.Dearest.{greatestCost}
 use Rattle.etf.specs.OfJob.{instance}
 use Rattle.etf.specs.Laws.Lists.{upto-in, upto-of, place}
@@ -38,6 +40,10 @@ unfolding instance messageTime
 near-processors j a e h p q s t = mul-le-mul (each-edge j (λ d. d .count ≤ 1000) (a .few-messages) e h) (cost-most (j .platform) p q (a .few-processors) (a .small-unit) s t)
 
 -- one processor reaches itself alone
+alone : (r : Platform) → greatest (λ p. greatest (λ q. cost r p q) (upto 1)) (upto 1) ≡ 0
+unfolding greatest upto
+alone r = omega (arith, cost-self r 0)
+
 pub one-processor : (j : Job) → j .platform .processors ≡ 1 → greatestCost (instance j) ≡ 0
-unfolding instance greatestCost greatest upto
-one-processor j e = rw e (omega (arith, cost-self (j .platform) 0))
+unfolding instance greatestCost
+one-processor j e = ap (λ (n : ℕ). greatest (λ p. greatest (λ q. cost (j .platform) p q) (upto n)) (upto n)) e ∙ alone (j .platform)

@@ -13,7 +13,7 @@ use Rattle.etf.specs.Lists.{_∈_, here, there, upto, filter}
 use Rattle.etf.specs.Instance.{Instance, WellFormed, tasks}
 use Rattle.etf.specs.Schedule.{Placement, placed, placementOf, finish, end, scheduleOf, byTask}
 use Rattle.etf.specs.Rule.{begin, run, planned}
-use Rattle.etf.specs.Cover.{lastTask}
+use Rattle.etf.specs.Cover.{FinishesLast, lastTask}
 use Rattle.etf.specs.Checker.{Apart}
 use Rattle.etf.specs.Laws.Tests.{either, not-both, fails, pick-yes, pick-no, neqb→ne, le-or-lt}
 use Rattle.etf.specs.Laws.Lists.{in-nothing, greatest-ge, greatest-at, upto-in, upto-of, map-of, Best, nothing, found, best-is, by-greatest}
@@ -103,7 +103,7 @@ module _ (I : Instance) (W : WellFormed I) where
           ))
 
   -- the last task finishes at the end
-  pub last-task : (T : ℕ) × (lastTask I (planned I) ≡ some T) × (T < tasks I) × (finish I (placementOf (planned I) T) ≡ end I (planned I))
+  pub last-task : (T : ℕ) × (lastTask I (planned I) ≡ some T) × FinishesLast I (planned I) T
   unfolding lastTask
   last-task = go (lastTask I (planned I)) (best-is (λ S T. ltb (at T) (at S)) (by-greatest at) (upto (tasks I)))
     where
@@ -111,11 +111,11 @@ module _ (I : Instance) (W : WellFormed I) where
       at T = finish I (placementOf (planned I) T)
 
       go : (o : Option ℕ) → Best (λ S T. ltb (at T) (at S)) (upto (tasks I)) o
-          → (T : ℕ) × (o ≡ some T) × (T < tasks I) × (at T ≡ end I (planned I))
+          → (T : ℕ) × (o ≡ some T) × FinishesLast I (planned I) T
       go o (nothing z) = absurd (z 0 (upto-in (tasks I) 0 (W .some-task)))
       go o (found T h low) =
           let b = upto-of (tasks I) T h in
-          (T, refl, b, ends T b (λ S c. nltb→le (at T) (at S) (low S (upto-in (tasks I) S c))))
+          (T, refl, record { below = b; at-end = ends T b (λ S c. nltb→le (at T) (at S) (low S (upto-in (tasks I) S c))) })
 
   -- each task is placed exactly once
   pub placed-once : (T : ℕ) → T < tasks I → length (filter (λ u. eqb (u .task) T) (planned I)) ≡ 1

@@ -10,7 +10,7 @@ use Rattle.job.specs.Job.{Edge}
 use Rattle.etf.specs.Lists.{_∈_, upto, greatest}
 use Rattle.etf.specs.Instance.{Instance, WellFormed, tasks, duration, into, messageTime}
 use Rattle.etf.specs.Schedule.{Placement, placed, placementOf, finish, messageTimeTo, reach}
-use Rattle.etf.specs.Cover.{Walk, stop, step}
+use Rattle.etf.specs.Cover.{Walk, stops, goes}
 use Rattle.etf.specs.Dearest.{greatestCost, dearestTo, dearest}
 use Rattle.etf.specs.Ideal.{Ideal}
 use Rattle.etf.specs.Laws.Lists.{greatest-ge, upto-in}
@@ -18,7 +18,7 @@ use Rattle.etf.specs.Laws.Sums.{sum-stretch, sum-grows}
 use Rattle.etf.specs.Laws.Placements.{placement-of, into-of}
 use Rattle.etf.specs.Laws.Sound.{Sound}
 use Rattle.etf.specs.Laws.Ticks.{idlers}
-use Rattle.etf.specs.Laws.Short.{idle-of, idle-before, idlers-most, idlers-less, idle-until, none-idle}
+use Rattle.etf.specs.Laws.Idle.{idle-of, idle-before, idlers-most, idlers-less, idle-until, none-idle}
 
 module _ (I : Instance) (ps : List Placement) (cm : ℕ) (S : Sound I cm ps) (whole : (T : ℕ) → T < tasks I → Holds (placed ps T)) (W : WellFormed I) where
   -- a placement of a task, and its processor
@@ -47,16 +47,17 @@ module _ (I : Instance) (ps : List Placement) (cm : ℕ) (S : Sound I cm ps) (wh
 
   pub walk-bound : (R : Ideal I) (q : ℕ) → I .processors ≡ suc q → (T C : ℕ) → T < tasks I → Walk I ps T C
       → idle-before I ps (finish I (placementOf ps T)) ≤ q * (R .start T + duration I T) + I .processors * C
-  walk-bound R q e T C b (stop _ z) = omega (arith, own q e T b, none-idle I ps (placementOf ps T .start) z)
-  walk-bound R q e T C b (step _ P l D s w) =
-      let f = source T l (s .edge) in
-      let i = into-of I T l (s .edge) in
+  walk-bound R q e T C h (stops _ z) = omega (arith, own q e T h, none-idle I ps (placementOf ps T .start) z)
+  walk-bound R q e T C h (goes _ b D s w) =
+      let l = b .edge in
+      let f = source T l (s .is-into) in
+      let i = into-of I T l (s .is-into) in
       omega (
         arith,
-        own q e T b,
-        idle-until I ps (placementOf ps T .start) (s .tick) (s .latest),
-        sum-grows (idlers I ps) (suc (s .tick)) (reach I ps P l) (s .after),
-        sum-stretch (idlers I ps) (finish I (placementOf ps (l .from))) (messageTimeTo I ps P l) (I .processors) (λ t x y. idlers-most I ps t),
+        own q e T h,
+        idle-until I ps (placementOf ps T .start) (s .tick) (s .is-latest),
+        sum-grows (idlers I ps) (suc (s .tick)) (reach I ps (b .through) l) (s .reaches-after),
+        sum-stretch (idlers I ps) (finish I (placementOf ps (l .from))) (messageTimeTo I ps (b .through) l) (I .processors) (λ t x y. idlers-most I ps t),
         walk-bound R q e (l .from) D (f .1) w,
         mul-le-mul-left q (R .in-turn l (i .0)),
         ap (λ x. q * R .start x) (i .1),
@@ -75,15 +76,16 @@ module _ (I : Instance) (ps : List Placement) (cm : ℕ) (S : Sound I cm ps) (wh
 
   walk-chain : (k T C : ℕ) → T < k → T < tasks I → Walk I ps T C → C ≤ dearestTo I k T
   unfolding dearestTo
-  walk-chain zero T C h b w = absurd (omega arith)
-  walk-chain (suc k) T C h b (stop _ z) = omega arith
-  walk-chain (suc k) T C h b (step _ P l D s w) =
-      let f = source T l (s .edge) in
+  walk-chain zero T C h c w = absurd (omega arith)
+  walk-chain (suc k) T C h c (stops _ z) = omega arith
+  walk-chain (suc k) T C h c (goes _ b D s w) =
+      let l = b .edge in
+      let f = source T l (s .is-into) in
       omega (
         arith,
-        message-most P l (idle-of I ps (s .tick) P (s .idler) .0) (f .1),
+        message-most (b .through) l (idle-of I ps (s .tick) (b .through) (s .is-idle) .0) (f .1),
         walk-chain k (l .from) D (omega arith) (f .1) w,
-        greatest-ge (λ e. e .count * greatestCost I + dearestTo I k (e .from)) (into I T) l (s .edge),
+        greatest-ge (λ e. e .count * greatestCost I + dearestTo I k (e .from)) (into I T) l (s .is-into),
       )
 
   pub walk-dearest : (T C : ℕ) → T < tasks I → Walk I ps T C → C ≤ dearest I

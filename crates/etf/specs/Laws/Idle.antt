@@ -11,7 +11,7 @@ use Rattle.job.specs.Number.{pick}
 use Rattle.etf.specs.Lists.{_∈_, upto}
 use Rattle.etf.specs.Instance.{Instance}
 use Rattle.etf.specs.Schedule.{Placement, finish}
-use Rattle.etf.specs.Cover.{busy, idle, short, latestShort}
+use Rattle.etf.specs.Cover.{busy, idle, someIdle, latestIdleTick}
 use Rattle.etf.specs.Laws.Tests.{either, not-both, not-not, le-or-lt}
 use Rattle.etf.specs.Laws.Lists.{any-of, any-one, filter-in, filter-of, upto-in, upto-of}
 use Rattle.etf.specs.Laws.Sums.{one-if, one-if-most, one-if-no, sum, sum-le, sum-same, sum-less, sum-each, sum-stretch}
@@ -26,37 +26,37 @@ module _ (I : Instance) (ps : List Placement) where
       (upto-of (I .processors) P (r .0), r .1)
 
   -- a short tick has an idle processor
-  pub short-of : (t : ℕ) → Holds (short I ps t) → (P : ℕ) × (P ∈ idle I ps t)
-  unfolding short idle
-  short-of t h =
+  pub idle-in : (t : ℕ) → Holds (someIdle I ps t) → (P : ℕ) × (P ∈ idle I ps t)
+  unfolding someIdle idle
+  idle-in t h =
       let z = any-one (λ P. not (busy I ps P t)) (upto (I .processors)) h in
       (z .0, filter-in (λ P. not (busy I ps P t)) (upto (I .processors)) (z .0) (z .1) (z .2))
 
   -- in a tick that is not short each processor is busy
-  pub not-short : (t : ℕ) → Holds (not (short I ps t)) → (P : ℕ) → P < I .processors → Holds (busy I ps P t)
-  unfolding short
-  not-short t h P p = go (either (busy I ps P t))
+  pub none-idle-in : (t : ℕ) → Holds (not (someIdle I ps t)) → (P : ℕ) → P < I .processors → Holds (busy I ps P t)
+  unfolding someIdle
+  none-idle-in t h P p = go (either (busy I ps P t))
     where
       go : Holds (busy I ps P t) ⊎ Holds (not (busy I ps P t)) → Holds (busy I ps P t)
       go (inl b) = b
       go (inr b) =
-          absurd (not-both (short I ps t) h (any-of (λ Q. not (busy I ps Q t)) (upto (I .processors)) P (upto-in (I .processors) P p) b))
+          absurd (not-both (someIdle I ps t) h (any-of (λ Q. not (busy I ps Q t)) (upto (I .processors)) P (upto-in (I .processors) P p) b))
 
-  -- what `latestShort` gives
-  pub data LatestShort (s : ℕ) : Option ℕ → Type 0 where
-    never : ((t : ℕ) → t < s → Holds (not (short I ps t))) → LatestShort s none
-    at : (t : ℕ) → t < s → Holds (short I ps t) → ((r : ℕ) → t < r → r < s → Holds (not (short I ps r))) → LatestShort s (some t)
+  -- what `latestIdleTick` gives
+  pub data LatestIdleTick (s : ℕ) : Option ℕ → Type 0 where
+    never : ((t : ℕ) → t < s → Holds (not (someIdle I ps t))) → LatestIdleTick s none
+    at : (t : ℕ) → t < s → Holds (someIdle I ps t) → ((r : ℕ) → t < r → r < s → Holds (not (someIdle I ps r))) → LatestIdleTick s (some t)
 
-  pub latest-short : (s : ℕ) → LatestShort s (latestShort I ps s)
-  unfolding latestShort
-  latest-short zero = never (λ t h. absurd (omega arith))
-  latest-short (suc s) = go (either (short I ps s)) (short I ps s) refl (latestShort I ps s) (latest-short s)
+  pub latest-idle-tick : (s : ℕ) → LatestIdleTick s (latestIdleTick I ps s)
+  unfolding latestIdleTick
+  latest-idle-tick zero = never (λ t h. absurd (omega arith))
+  latest-idle-tick (suc s) = go (either (someIdle I ps s)) (someIdle I ps s) refl (latestIdleTick I ps s) (latest-idle-tick s)
     where
-      up : (t : ℕ) → Holds (not (short I ps s)) → (t < s → Holds (not (short I ps t))) → (suc t ≤ s) ⊎ (s < suc t) → t < suc s → Holds (not (short I ps t))
+      up : (t : ℕ) → Holds (not (someIdle I ps s)) → (t < s → Holds (not (someIdle I ps t))) → (suc t ≤ s) ⊎ (s < suc t) → t < suc s → Holds (not (someIdle I ps t))
       up t n r (inl k) h = r k
-      up t n r (inr k) h = let e : s ≡ t = omega arith in subst (λ x. Holds (not (short I ps x))) e n
+      up t n r (inr k) h = let e : s ≡ t = omega arith in subst (λ x. Holds (not (someIdle I ps x))) e n
 
-      go : Holds (short I ps s) ⊎ Holds (not (short I ps s)) → (b : Bool) → short I ps s ≡ b → (o : Option ℕ) → LatestShort s o → LatestShort (suc s) (pick b (some s) o)
+      go : Holds (someIdle I ps s) ⊎ Holds (not (someIdle I ps s)) → (b : Bool) → someIdle I ps s ≡ b → (o : Option ℕ) → LatestIdleTick s o → LatestIdleTick (suc s) (pick b (some s) o)
       go x true e o L = at s (omega arith) (subst Holds (sym e) tt) (λ r a b. absurd (omega arith))
       go (inl x) false e o L = absurd (subst Holds e x)
       go (inr x) false e o (never z) = never (λ t h. up t x (z t) (le-or-lt (suc t) s) h)
@@ -90,20 +90,20 @@ module _ (I : Instance) (ps : List Placement) where
       )
 
   -- in a tick that is not short none is
-  idlers-none : (t : ℕ) → Holds (not (short I ps t)) → idlers I ps t ≤ 0
+  idlers-none : (t : ℕ) → Holds (not (someIdle I ps t)) → idlers I ps t ≤ 0
   idlers-none t h =
       omega (
         arith,
         idlers-sum I ps t,
         sum-each (I .processors) 0,
-        sum-same (I .processors) (λ P. one-if (not (busy I ps P t))) (λ P. 0) (λ P p. one-if-no (not (busy I ps P t)) (not-not (busy I ps P t) (not-short t h P p))),
+        sum-same (I .processors) (λ P. one-if (not (busy I ps P t))) (λ P. 0) (λ P p. one-if-no (not (busy I ps P t)) (not-not (busy I ps P t) (none-idle-in t h P p))),
       )
 
   -- so idle ticks before s are idle ticks before the end of the latest short tick
-  pub idle-until : (s t : ℕ) → latestShort I ps s ≡ some t → idle-before s ≤ idle-before (suc t)
-  idle-until s t e = go (rw e at (latest-short s))
+  pub idle-until : (s t : ℕ) → latestIdleTick I ps s ≡ some t → idle-before s ≤ idle-before (suc t)
+  idle-until s t e = go (rw e at (latest-idle-tick s))
     where
-      go : LatestShort s (some t) → idle-before s ≤ idle-before (suc t)
+      go : LatestIdleTick s (some t) → idle-before s ≤ idle-before (suc t)
       go (at t h b z) =
           let k : suc t + (s - suc t) ≡ s = omega arith in
           omega (
@@ -113,8 +113,8 @@ module _ (I : Instance) (ps : List Placement) where
           )
 
   -- and there are none where no tick before s is short
-  pub none-idle : (s : ℕ) → latestShort I ps s ≡ none → idle-before s ≤ 0
-  none-idle s e = go (rw e at (latest-short s))
+  pub none-idle : (s : ℕ) → latestIdleTick I ps s ≡ none → idle-before s ≤ 0
+  none-idle s e = go (rw e at (latest-idle-tick s))
     where
-      go : LatestShort s none → idle-before s ≤ 0
+      go : LatestIdleTick s none → idle-before s ≤ 0
       go (never z) = omega (arith, sum-each s 0, sum-le s (idlers I ps) (λ t. 0) (λ t h. idlers-none t (z t h)))
