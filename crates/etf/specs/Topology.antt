@@ -1,4 +1,4 @@
--- Link costs (01: "Link costs").
+-- Link costs (01: "Link costs"). A platform has `processors` (01: boards n), `topology` (wiring) and `unit` (unit cost c).
 use mathlib.Core.Bool.{not, _&&_}
 use mathlib.Core.List.{List, map}
 use Prim.Native.Nat.{ℕ, _-_, _*_, _/_, _%_, _^_, min}
@@ -26,12 +26,16 @@ ringHops n p q = min (difference p q) (n - difference p q)
 
 -- the hops between two different processors, by topology: 0 complete (01: "Flat: 1 hop"), 1 hypercube (01: cube), 2 ring
 unfoldable pub hops : Platform → ℕ → ℕ → ℕ
-hops r p q = pick (eqb (r .topology) 0) 1 (pick (eqb (r .topology) 1) (hypercubeHops p q) (ringHops (r .processors) p q))
+hops r p q =
+    pick (eqb (r .topology) 0) 1
+    (pick (eqb (r .topology) 1) (hypercubeHops p q)
+    (pick (eqb (r .topology) 2) (ringHops (r .processors) p q)
+    0))
 
 -- 01: "The cost from a board to itself is 0. Between boards p and q it is c times the hops."
 unfoldable pub cost : Platform → ℕ → ℕ → ℕ
 cost r p q = pick (eqb p q) 0 (r .unit * hops r p q)
 
--- 01: "the costs are laid out as a square of sixteen rows of sixteen, 0 where a board is absent"
-unfoldable pub square : Platform → List (List ℕ)
-square r = map (λ p. map (λ q. pick (ltb p (r .processors) && ltb q (r .processors)) (cost r p q) 0) (upto 16)) (upto 16)
+-- 01: "the costs are laid out as a square of sixteen rows of sixteen, 0 where a board is absent"; n processors, any cost
+unfoldable pub square : ℕ → (ℕ → ℕ → ℕ) → List (List ℕ)
+square n c = map (λ p. map (λ q. pick (ltb p n && ltb q n) (c p q) 0) (upto 16)) (upto 16)

@@ -31,18 +31,17 @@ unfolding ringHops
 ring-most n p q h = omega arith
 
 -- no way has more than eight hops
-pub hops-most : (r : Platform) (p q : ℕ) → r .processors ≤ 16 → p < r .processors → q < r .processors → hops r p q ≤ 8
+pub hops-most : (r : Platform) (p q : ℕ) → r .processors ≤ 16 → hops r p q ≤ 8
 unfolding hops
-hops-most r p q n h k =
-    pick-most (eqb (r .topology) 0) 1 (pick (eqb (r .topology) 1) (hypercubeHops p q) (ringHops (r .processors) p q)) 8 (omega arith)
-    (pick-most (eqb (r .topology) 1) (hypercubeHops p q) (ringHops (r .processors) p q) 8
-    (omega (arith, hypercube-most p q)) (ring-most (r .processors) p q n))
+hops-most r p q n =
+    pick-most (eqb (r .topology) 0) 1 _ 8 (omega arith)
+    (pick-most (eqb (r .topology) 1) (hypercubeHops p q) _ 8 (omega (arith, hypercube-most p q))
+    (pick-most (eqb (r .topology) 2) (ringHops (r .processors) p q) 0 8 (ring-most (r .processors) p q n) (omega arith)))
 
 -- no cost passes 800
-pub cost-most : (r : Platform) (p q : ℕ) → r .processors ≤ 16 → r .unit ≤ 100 → p < r .processors → q < r .processors → cost r p q ≤ 800
+pub cost-most : (r : Platform) (p q : ℕ) → r .processors ≤ 16 → r .unit ≤ 100 → cost r p q ≤ 800
 unfolding cost
-cost-most r p q n c h k =
-    pick-most (eqb p q) 0 (r .unit * hops r p q) 800 (omega arith) (mul-le-mul c (hops-most r p q n h k))
+cost-most r p q n c = pick-most (eqb p q) 0 (r .unit * hops r p q) 800 (omega arith) (mul-le-mul c (hops-most r p q n))
 
 -- a processor reaches itself at cost 0
 pub cost-self : (r : Platform) (p : ℕ) → cost r p p ≡ 0
@@ -51,31 +50,30 @@ cost-self r p = pick-yes (eqb p p) 0 (r .unit * hops r p p) (eqb-refl p)
 
 -- ---- the square of costs
 
--- the entry at p, q as the square is made
-abbrev entry : Platform → ℕ → ℕ → ℕ
-entry r p q = pick (ltb p (r .processors) && ltb q (r .processors)) (cost r p q) 0
+module _ (n : ℕ) (c : ℕ → ℕ → ℕ) where
+  -- the entry at p, q as the square is made
+  abbrev entry : ℕ → ℕ → ℕ
+  entry p q = pick (ltb p n && ltb q n) (c p q) 0
 
-row-is : (r : Platform) (p : ℕ) → p < 16 → getD (square r) p [] ≡ map (entry r p) (upto 16)
-unfolding square
-row-is r p h = map-upto-at (λ i. map (entry r i) (upto 16)) 16 p [] h
+  row-is : (p : ℕ) → p < 16 → getD (square n c) p [] ≡ map (entry p) (upto 16)
+  unfolding square
+  row-is p h = map-upto-at (λ i. map (entry i) (upto 16)) 16 p [] h
 
--- the square has sixteen rows
-pub square-length : (r : Platform) → length (square r) ≡ 16
-unfolding square
-square-length r = map-upto-length (λ p. map (entry r p) (upto 16)) 16
+  -- the square has sixteen rows
+  pub square-length : length (square n c) ≡ 16
+  unfolding square
+  square-length = map-upto-length (λ p. map (entry p) (upto 16)) 16
 
--- each row has sixteen entries
-pub row-length : (r : Platform) (p : ℕ) → p < 16 → length (getD (square r) p []) ≡ 16
-row-length r p h = rw (row-is r p h) (map-upto-length (entry r p) 16)
+  -- each row has sixteen entries
+  pub row-length : (p : ℕ) → p < 16 → length (getD (square n c) p []) ≡ 16
+  row-length p h = rw (row-is p h) (map-upto-length (entry p) 16)
 
--- the entry at p, q
-pub square-at : (r : Platform) (p q : ℕ) → p < 16 → q < 16
-    → getD (getD (square r) p []) q 0 ≡ pick (ltb p (r .processors) && ltb q (r .processors)) (cost r p q) 0
-square-at r p q h k = rw (row-is r p h) (map-upto-at (entry r p) 16 q 0 k)
+  -- the entry at p, q
+  pub square-at : (p q : ℕ) → p < 16 → q < 16 → getD (getD (square n c) p []) q 0 ≡ pick (ltb p n && ltb q n) (c p q) 0
+  square-at p q h k = rw (row-is p h) (map-upto-at (entry p) 16 q 0 k)
 
--- between two processors that are there it is the cost
-pub square-cost : (r : Platform) (p q : ℕ) → r .processors ≤ 16 → p < r .processors → q < r .processors → getD (getD (square r) p []) q 0 ≡ cost r p q
-square-cost r p q n h k =
-    square-at r p q (omega arith) (omega arith)
-    ∙ pick-yes (ltb p (r .processors) && ltb q (r .processors)) (cost r p q) 0
-    (both (ltb p (r .processors)) (ltb q (r .processors)) (lt→ltb p (r .processors) h) (lt→ltb q (r .processors) k))
+  -- between two processors that are there it is the cost
+  pub square-cost : (p q : ℕ) → n ≤ 16 → p < n → q < n → getD (getD (square n c) p []) q 0 ≡ c p q
+  square-cost p q m h k =
+      square-at p q (omega arith) (omega arith)
+      ∙ pick-yes (ltb p n && ltb q n) (c p q) 0 (both (ltb p n) (ltb q n) (lt→ltb p n h) (lt→ltb q n k))

@@ -30,6 +30,10 @@ of-job j a = record {
   has-only = upto-of (length (j .tasks));
 }
 
+pub few : (j : Job) → Accepted j → tasks (instance j) ≤ 256
+unfolding instance
+few j a = a .few-tasks
+
 pub short-tasks : (j : Job) → Accepted j → (T : ℕ) → T < tasks (instance j) → duration (instance j) T ≤ 1000000
 unfolding instance duration
 short-tasks j a = a .short-enough
@@ -37,7 +41,7 @@ short-tasks j a = a .short-enough
 pub near-processors : (j : Job) → Accepted j → (e : Edge) → e ∈ instance j .edges → (p q : ℕ) → p < instance j .processors → q < instance j .processors
     → messageTime (instance j) e p q ≤ 800000
 unfolding instance messageTime
-near-processors j a e h p q s t = mul-le-mul (each-edge j (λ d. d .count ≤ 1000) (a .few-messages) e h) (cost-most (j .platform) p q (a .few-processors) (a .small-unit) s t)
+near-processors j a e h p q s t = mul-le-mul (each-edge j (λ d. d .count ≤ 1000) (a .few-messages) e h) (cost-most (j .platform) p q (a .few-processors) (a .small-unit))
 
 -- one processor reaches itself alone
 alone : (r : Platform) → greatest (λ p. greatest (λ q. cost r p q) (upto 1)) (upto 1) ≡ 0

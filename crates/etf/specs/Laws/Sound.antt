@@ -113,7 +113,7 @@ module _ (I : Instance) where
     same-placementOf : (T : ℕ) → Holds (placed ps T) → placementOf (u ∷ ps) T ≡ placementOf ps T
     same-placementOf T h = placement-tail u ps T (other T h)
 
-    same-arrival : (T P : ℕ) → Opened ps T → arrival I (u ∷ ps) T P ≡ arrival I ps T P
+    pub same-arrival : (T P : ℕ) → Opened ps T → arrival I (u ∷ ps) T P ≡ arrival I ps T P
     same-arrival T P o = arrival-same I (u ∷ ps) ps T P (λ l h. same-placementOf (l .from) (o l h))
 
     ends-later : cm < finish I u

@@ -1,4 +1,5 @@
 -- How late a planned task can finish: each task placed adds at most its duration and one message time.
+use mathlib.Core.Path.{ap}
 use mathlib.Core.Logic.{_⊎_, inl, inr}
 use mathlib.Core.List.{List, [], _∷_}
 use Prim.Native.Nat.{ℕ, zero, suc, _+_, _*_, _≤_, _<_}
@@ -7,14 +8,15 @@ use native.Mathlib.Nat.{mul-le-mul-right}
 use Rattle.job.specs.Job.{Edge}
 use Rattle.etf.specs.Lists.{_∈_}
 use Rattle.etf.specs.Instance.{Instance, WellFormed, tasks, duration, messageTime}
-use Rattle.etf.specs.Schedule.{Placement, placementOf, finish, messageTimeTo, arrival}
+use Rattle.etf.specs.Schedule.{Placement, placementOf, finish, messageTimeTo, arrival, end}
 use Rattle.etf.specs.Rule.{State, begin, round, run, planned}
 use Rattle.etf.specs.Laws.Tests.{le-or-lt}
 use Rattle.etf.specs.Laws.Lists.{for-cons, in-nothing}
 use Rattle.etf.specs.Laws.Placements.{placement-of, into-of, arrival-at}
 use Rattle.etf.specs.Laws.Turn.{Put, Tick, Turn, rest, put, tick, stuck, turn}
-use Rattle.etf.specs.Laws.Sound.{Opened, Sound, sound-start, sound-round, sound-run}
-use Rattle.etf.specs.Laws.Rounds.{left, left-start, left-put, all-placed}
+use Rattle.etf.specs.Laws.Sound.{Opened, Sound, same-arrival, sound-start, sound-round}
+use Rattle.etf.specs.Laws.Rounds.{left, left-start, left-put}
+use Rattle.etf.specs.Laws.Planned.{home, last-task}
 
 module _ (I : Instance) (W : WellFormed I) (D B : ℕ)
     (short : (T : ℕ) → T < tasks I → duration I T ≤ D)
@@ -40,6 +42,7 @@ module _ (I : Instance) (W : WellFormed I) (D B : ℕ)
     pub counted : count + left I ps ≤ tasks I
     pub clock-by : cm ≤ count * (D + B)
     pub finish-by : (u : Placement) → u ∈ ps → finish I u + B ≤ count * (D + B)
+    pub arrive-by : (u : Placement) → u ∈ ps → (P : ℕ) → P < I .processors → arrival I ps (u .task) P + (D + B) ≤ count * (D + B)
 
   low-start : Low 0 []
   low-start = record {
@@ -47,6 +50,7 @@ module _ (I : Instance) (W : WellFormed I) (D B : ℕ)
     counted = omega (arith, left-start I);
     clock-by = omega arith;
     finish-by = λ u h. absurd (in-nothing h);
+    arrive-by = λ u h. absurd (in-nothing h);
   }
 
   low-put : (cm : ℕ) (ps : List Placement) (u : Placement) → Sound I cm ps → Low cm ps → Put I cm ps u → Low cm (u ∷ ps)
@@ -60,10 +64,19 @@ module _ (I : Instance) (W : WellFormed I) (D B : ℕ)
           K .when,
           L .clock-by,
           short (u .task) (K .task-ready .below),
-          arrival-by ps (L .count * (D + B)) (S .in-range) (L .finish-by) (u .task) (u .processor) (λ l h. K .task-ready .waits l h .0) (K .processor-below),
+          arrives (u .processor) (K .processor-below),
         ))
         (λ v h. omega (arith, L .finish-by v h));
+    arrive-by = for-cons (λ v. (P : ℕ) → P < I .processors → arrival I (u ∷ ps) (v .task) P + (D + B) ≤ suc (L .count) * (D + B))
+        (λ P p. omega (arith, same-arrival I W cm ps u S K (u .task) P opened, arrives P p))
+        (λ v h P p. omega (arith, same-arrival I W cm ps u S K (v .task) P (S .opened v h), L .arrive-by v h P p));
   }
+    where
+      opened : Opened I ps (u .task)
+      opened l h = K .task-ready .waits l h .0
+
+      arrives : (P : ℕ) → P < I .processors → arrival I ps (u .task) P ≤ L .count * (D + B)
+      arrives P p = arrival-by ps (L .count * (D + B)) (S .in-range) (L .finish-by) (u .task) P opened p
 
   low-tick : (cm : ℕ) (ps : List Placement) (x : ℕ) → Low cm ps → Tick I cm ps x → Low x ps
   low-tick cm ps x L K = let w = K .whose in record {
@@ -71,6 +84,7 @@ module _ (I : Instance) (W : WellFormed I) (D B : ℕ)
     counted = L .counted;
     clock-by = omega (arith, w .2, L .finish-by (w .0) (w .1));
     finish-by = L .finish-by;
+    arrive-by = L .arrive-by;
   }
 
   low-round : (st : State) → Sound I (st .clock) (st .placements) → Low (st .clock) (st .placements) → Low (round I st .clock) (round I st .placements)
@@ -87,19 +101,24 @@ module _ (I : Instance) (W : WellFormed I) (D B : ℕ)
   low-run zero st S L = L
   low-run (suc k) st S L = low-run k (round I st) (sound-round I W st S) (low-round st S L)
 
+  low-plan : Low (run I (2 * tasks I) begin .clock) (planned I)
+  unfolding planned
+  low-plan = low-run (2 * tasks I) begin (sound-start I) low-start
+
+  by-count : low-plan .count * (D + B) ≤ tasks I * (D + B)
+  by-count = mul-le-mul-right {m = low-plan .count} {n = tasks I} (D + B) (omega (arith, low-plan .counted))
+
   -- the finish of a planned task: m durations and m - 1 message times
   pub finish-most : (u : Placement) → u ∈ planned I → finish I u + B ≤ tasks I * (D + B)
-  unfolding planned
-  finish-most u h =
-      let L = low-run (2 * tasks I) begin (sound-start I) low-start in
-      omega (arith, L .finish-by u h, mul-le-mul-right {m = L .count} {n = tasks I} (D + B) (omega (arith, L .counted)))
+  finish-most u h = omega (arith, low-plan .finish-by u h, by-count)
 
-  planned-range : (u : Placement) → u ∈ planned I → (u .task < tasks I) × (u .processor < I .processors)
-  unfolding planned
-  planned-range = sound-run I W (2 * tasks I) begin (sound-start I) .in-range
+  -- the end
+  pub end-most : end I (planned I) + B ≤ tasks I * (D + B)
+  unfolding end
+  end-most = let t = last-task I W in omega (arith, t .2 .at-end, finish-most (placementOf (planned I) (t .0)) (home I W (t .0) (t .2 .below) .0))
 
-  -- the arrival of a task at a processor
-  pub arrival-most : (T P : ℕ) → T < tasks I → P < I .processors → arrival I (planned I) T P ≤ tasks I * (D + B)
+  -- the arrival of a task at a processor: m - 1 durations and message times
+  pub arrival-most : (T P : ℕ) → T < tasks I → P < I .processors → arrival I (planned I) T P + (D + B) ≤ tasks I * (D + B)
   arrival-most T P h p =
-      arrival-by (planned I) (tasks I * (D + B)) planned-range finish-most T P
-      (λ l k. let i = into-of I T l k in all-placed I W (l .from) (omega (arith, W .goes-up l (i .0), i .1))) p
+      let s = home I W T h in
+      omega (arith, low-plan .arrive-by (placementOf (planned I) T) (s .0) P p, ap (λ x. arrival I (planned I) x P) (s .1), by-count)
