@@ -26,7 +26,7 @@ NAMES = {
     "Instance": "duration into messageTime",
     "Schedule": "placed placementOf messageTimeTo arrival end scheduleOf byTask",
     "Rule": RULE,
-    "Cover": "running busy idle short latestShort lowestIdle later latestInto back walk lastTask cover",
+    "Cover": "running busy idle someIdle latestIdleTick lowestIdle later latestInto back walk lastTask cover",
     "Dearest": "greatestCost dearestTo dearest",
     "Checker": "firstAnswer misplaced overlap early check",
     "Topology": "hypercubeHops difference ringHops hops cost square",
@@ -105,7 +105,7 @@ def theorem(i, dice):
     costs = [[etf.cost(job, p, q) if p < n and q < n else 0 for q in range(16)] for p in range(16)]
     everything = " ".join(NAMES.values())
     text += [f"plan-{i} : seen (instance job-{i}) ≡ {rows(lines)}", f"unfolding seen bind flatMap {everything}", f"plan-{i} = refl", ""]
-    text += [f"square-{i} : square (job-{i} .platform) ≡ {rows(costs)}", f"unfolding {NAMES['Topology']} {LISTS}", f"square-{i} = refl", ""]
+    text += [f"square-{i} : square (job-{i} .platform .processors) (cost (job-{i} .platform)) ≡ {rows(costs)}", f"unfolding {NAMES['Topology']} {LISTS}", f"square-{i} = refl", ""]
     found = []
     for k, (boards, starts) in enumerate(some_plans(dice, job, plan)):
         answer = etf.check(job, boards, starts)

@@ -1,24 +1,28 @@
 -- The worked cases of document 01 ("Ticks worked out") in one table, held to the definitions by computing them; after them cases that its
--- words settle and its list does not have.
-use mathlib.Core.Option.{bind}
+-- words settle and its list does not have, and the small inputs of the refusal table that are the checker's. In the document's words.
+use mathlib.Core.Option.{Option, none, some, bind, orElse}
 use mathlib.Core.Path.{_≡_, refl}
 use mathlib.Core.List.{List, [], _∷_, _++_, map, flatMap}
 use Prim.Native.Nat.{ℕ}
+use lib.ListN.{getD}
 use Rattle.job.specs.declared.Platform.{Platform}
 use Rattle.job.specs.Job.{Edge, Job}
 use Rattle.etf.specs.Lists.{upto, any, all, filter, greatest, keep, best}
 use Rattle.etf.specs.Instance.{Instance, duration, into, messageTime}
 use Rattle.etf.specs.Schedule.{Placement, placed, placementOf, finish, messageTimeTo, arrival, end, scheduleOf, byTask}
-use Rattle.etf.specs.Rule.{atMost, move, settle, nextMoment, free, finished, ready, pair, pairs, choice, complete, round, run, planned}
+use Rattle.etf.specs.Rule.{atMost, move, settle, nextMoment, free, finished, ready, pair, pairs, choice, complete, round, run, planned, roundsIn, rounds}
 use Rattle.etf.specs.Cover.{running, busy, idle, someIdle, latestIdleTick, lowestIdle, later, latestInto, back, walk, lastTask, cover}
 use Rattle.etf.specs.Dearest.{greatestCost, dearestTo, dearest}
+use Rattle.etf.specs.Checker.{firstAnswer, misplaced, overlap, early, check}
 use Rattle.etf.specs.Topology.{hypercubeHops, difference, ringHops, hops, cost}
 use Rattle.etf.specs.OfJob.{instance}
 
--- what a case asks: the plan of a job, or the hops between two processors
+-- what a case asks: the plan of a job, the hops between two boards, the planner's rounds, or the checker's answer to a plan's boards and starts
 pub data Question : Type 0 where
   planOf : Job → Question
   hopsOf : Platform → ℕ → ℕ → Question
+  roundsOf : Job → Question
+  answerTo : Job → List ℕ → List ℕ → Question
 
 -- the numbers that program `plan` prints after its header: of each task its number, processor, start and finish, then the end, C and the dearest chain
 pub printed : Instance → List (List ℕ)
@@ -26,9 +30,17 @@ printed I =
     map (λ (u : Placement). u .task ∷ u .processor ∷ u .start ∷ finish I u ∷ []) (byTask I (planned I))
     ++ ((end I (planned I) ∷ []) ∷ (cover I ∷ []) ∷ (dearest I ∷ []) ∷ [])
 
+-- 0 for a yes, else the number
+abbrev refusal : Option ℕ → ℕ
+refusal none = 0
+refusal (some k) = k
+
 pub answer : Question → List (List ℕ)
 answer (planOf j) = printed (instance j)
 answer (hopsOf r p q) = (hops r p q ∷ []) ∷ []
+answer (roundsOf j) = (rounds (instance j) ∷ []) ∷ []
+answer (answerTo j boards starts) =
+    (refusal (check (instance j) (scheduleOf (instance j) (λ T. getD boards T 0) (λ T. getD starts T 0))) ∷ []) ∷ []
 
 -- a question and the lines that answer it
 pub record Case : Type 0 where
@@ -46,6 +58,11 @@ plan r steps links lines = record { question = planOf (record { platform = r; ta
 
 abbrev between : Platform → ℕ → ℕ → ℕ → Case
 between r p q h = record { question = hopsOf r p q; lines = (h ∷ []) ∷ [] }
+
+-- the checker's answer to a plan for a job on two boards, flat, c = 2
+abbrev checked : List ℕ → List Edge → List ℕ → List ℕ → ℕ → Case
+checked steps links boards starts number =
+    record { question = answerTo (record { platform = rack 2 0 2; tasks = steps; edges = links }) boards starts; lines = (number ∷ []) ∷ [] }
 
 -- cases D, E, G and H: steps 3, 2, 2, links 0 to 1 and 0 to 2, on two processors wired flat
 abbrev fork : ℕ → List (List ℕ) → Case
@@ -89,9 +106,29 @@ cases =
     (row 0 0 0 1 ∷ row 1 0 1 2 ∷ row 2 0 2 3 ∷ totals 3 2 3)
     -- shortcut 5: the step with the last number does not finish last
     ∷ plan (rack 2 0 0) (5 ∷ 1 ∷ []) [] (row 0 0 0 5 ∷ row 1 1 0 1 ∷ totals 5 0 0)
+    -- one board: a link costs nothing, and the dearest chain is 0
+    ∷ plan (rack 1 0 5) (1 ∷ 1 ∷ []) (link 0 1 3 ∷ []) (row 0 0 0 1 ∷ row 1 0 1 2 ∷ totals 2 0 0)
+    -- a chain of 3 takes 5 rounds
+    ∷ record { question = roundsOf (record { platform = rack 2 0 1; tasks = 2 ∷ 1 ∷ 3 ∷ []; edges = link 0 1 1 ∷ link 1 2 1 ∷ [] }); lines = (5 ∷ []) ∷ [] }
+    -- 10: n = 2, board 2
+    ∷ checked (5 ∷ []) [] (2 ∷ []) (0 ∷ []) 10
+    -- 11: start 600,000,001; one less is taken
+    ∷ checked (5 ∷ []) [] (0 ∷ []) (600000001 ∷ []) 11
+    ∷ checked (5 ∷ []) [] (0 ∷ []) (600000000 ∷ []) 0
+    -- 11 of step 0 comes before 10 of step 1, and 10 of a step before its 11
+    ∷ checked (5 ∷ 5 ∷ []) [] (0 ∷ 2 ∷ []) (600000001 ∷ 0 ∷ []) 11
+    ∷ checked (5 ∷ []) [] (2 ∷ []) (600000001 ∷ []) 10
+    -- 12: two steps of 5, board 0, both at 0; a finish equal to a start is taken
+    ∷ checked (5 ∷ 5 ∷ []) [] (0 ∷ 0 ∷ []) (0 ∷ 0 ∷ []) 12
+    ∷ checked (5 ∷ 5 ∷ []) [] (0 ∷ 0 ∷ []) (5 ∷ 0 ∷ []) 0
+    -- 13: flat, c = 2, count 1: finish 5, start 6 elsewhere; start 7 is taken
+    ∷ checked (5 ∷ 5 ∷ []) (link 0 1 1 ∷ []) (0 ∷ 1 ∷ []) (0 ∷ 6 ∷ []) 13
+    ∷ checked (5 ∷ 5 ∷ []) (link 0 1 1 ∷ []) (0 ∷ 1 ∷ []) (0 ∷ 7 ∷ []) 0
+    -- 12 comes before 13
+    ∷ checked (5 ∷ 5 ∷ []) (link 0 1 1 ∷ []) (0 ∷ 0 ∷ []) (0 ∷ 4 ∷ []) 12
     ∷ []
 
 -- each question of the table is answered by its lines
 pub cases-hold : map (λ (c : Case). answer (c .question)) cases ≡ map (λ (c : Case). c .lines) cases
-unfolding cases answer printed instance upto any all filter greatest keep best duration into messageTime placed placementOf messageTimeTo arrival end scheduleOf byTask atMost move settle nextMoment free finished ready pair pairs choice complete round run planned running busy idle someIdle latestIdleTick lowestIdle later latestInto back walk lastTask cover greatestCost dearestTo dearest hypercubeHops difference ringHops hops cost bind flatMap
+unfolding cases answer printed instance upto any all filter greatest keep best duration into messageTime placed placementOf messageTimeTo arrival end scheduleOf byTask atMost move settle nextMoment free finished ready pair pairs choice complete round run planned roundsIn rounds running busy idle someIdle latestIdleTick lowestIdle later latestInto back walk lastTask cover greatestCost dearestTo dearest firstAnswer misplaced overlap early check hypercubeHops difference ringHops hops cost bind orElse flatMap
 cases-hold = refl

@@ -32,9 +32,9 @@ module _ (I : Instance) where
   abbrev pub InTime : Edge → Placement → Placement → Type 0
   InTime e u v = finish I u + messageTime I e (u .processor) (v .processor) ≤ v .start
 
-  -- a schedule keeps the rules
+  -- the placements of a schedule keep the rules among themselves. A plan that is handed in is a `scheduleOf`, which gives each task one placement
   pub record Keeps (ps : List Placement) : Type 0 where
-    -- 01: "A plan gives each step a board below n and a start of at most 600,000,000"
+    -- 01: "a board below n and a start of at most 600,000,000"
     pub on-processor : (u : Placement) → u ∈ ps → u .processor < I .processors
     pub not-late : (u : Placement) → u ∈ ps → u .start ≤ latestStart
     pub apart : (u v : Placement) → u ∈ ps → v ∈ ps → ¬ (u .task ≡ v .task) → u .processor ≡ v .processor → Apart u v

@@ -12,7 +12,7 @@ EndsAt T [] = Unit {0}
 EndsAt T (e ∷ es) = e .to ≡ T
 
 module _ (I : Instance) where
-  -- 01: "the greatest cost between two boards of the rack"; a job's processor reaches itself at cost 0
+  -- 01: "the greatest cost between two boards of the rack"; p to p is among the pairs, and costs 0 in a job
   unfoldable pub greatestCost : ℕ
   greatestCost = greatest (λ p. greatest (λ q. I .cost p q) (upto (I .processors))) (upto (I .processors))
 

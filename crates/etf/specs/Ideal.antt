@@ -16,7 +16,7 @@ module _ (I : Instance) where
     -- 01: "Of two steps on one board, one finishes at or before the other's start"
     pub apart : (S T : ℕ) → S < tasks I → T < tasks I → ¬ (S ≡ T) → processor S ≡ processor T
         → (start S + duration I S ≤ start T) ⊎ (start T + duration I T ≤ start S)
-    -- 01: "Across each link, the start of "to" is at least the finish of "from"; .. messages add nothing"
+    -- 01: "Across each link, the start of "to" is at least the finish of "from", its predecessor; messages add nothing"
     pub in-turn : (e : Edge) → e ∈ I .edges → start (e .from) + duration I (e .from) ≤ start (e .to)
 
   -- its makespan (01: "F is the greatest of his finishes")

@@ -7,9 +7,9 @@ use lib.ListN.{length, getD}
 use Rattle.job.specs.Job.{Edge}
 use Rattle.etf.specs.Lists.{_∈_, filter}
 
--- an instance of the planning problem. `durations` are those of the tasks (01: steps) from task 0 on, `edges` the links.
--- `cost p q` is what one message takes from processor p to processor q (01: boards), any function: the two ways may
--- differ, and nothing is said of p to p. `order` has the tasks by priority: a tie goes to the one that stands first.
+-- an instance of the planning problem: n `processors` (01: boards), the `durations` of the tasks (01: steps) from task 0 on, the `edges` (01: links).
+-- `cost p q` is what one message takes from processor p to processor q, any function: the two ways may differ, and nothing is said of p to p.
+-- `order` has the tasks by priority: of two that could start at one tick the one that stands first goes first.
 pub record Instance : Type 0 where
   pub processors : ℕ
   pub durations : List ℕ
@@ -38,7 +38,7 @@ module _ (I : Instance) where
   abbrev pub TaskChain : Type 0
   TaskChain = (T : ℕ) → suc T < tasks → (e : Edge) × (e ∈ I .edges) × (e .from ≡ T) × (e .to ≡ suc T)
 
-  -- at least one processor and one task, durations of at least 1, edges from lower to higher tasks, the order that of the tasks
+  -- at least one processor and one task, durations of at least 1, edges from lower to higher tasks, and `order` has every task and nothing else
   pub record WellFormed : Type 0 where
     pub some-processor : 1 ≤ I .processors
     pub some-task : 1 ≤ tasks

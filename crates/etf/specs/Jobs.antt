@@ -21,7 +21,7 @@ use Rattle.etf.specs.Laws.Checker.{keeps-yes, planned-keeps}
 use Rattle.etf.specs.Laws.Dearest.{dearest-free}
 use Rattle.etf.specs.Laws.OfJob.{of-job, few, short-tasks, near-processors, one-processor}
 
--- it is well formed
+-- the instance of an accepted job is well formed
 pub well-formed : (j : Job) → Accepted j → WellFormed (instance j)
 well-formed = of-job
 
@@ -52,10 +52,10 @@ no-arrival-passes j a T P h p =
 pub none-with-one-processor : (j : Job) → j .platform .processors ≡ 1 → dearest (instance j) ≡ 0
 none-with-one-processor j e = dearest-free (instance j) (one-processor j e)
 
--- the planner's plan keeps the rules
-pub plan-keeps : (j : Job) → Accepted j → Keeps (instance j) (byTask (instance j) (planned (instance j)))
-plan-keeps j a = planned-keeps (instance j) (well-formed j a) (λ u h. omega (arith, no-finish-passes j a u h))
+-- the planner's schedule keeps the rules
+pub planned-keeps-rules : (j : Job) → Accepted j → Keeps (instance j) (byTask (instance j) (planned (instance j)))
+planned-keeps-rules j a = planned-keeps (instance j) (well-formed j a) (λ u h. omega (arith, no-finish-passes j a u h))
 
 -- so the checker's answer to it is a yes
-pub plan-accepted : (j : Job) → Accepted j → check (instance j) (byTask (instance j) (planned (instance j))) ≡ none
-plan-accepted j a = keeps-yes (instance j) (byTask (instance j) (planned (instance j))) (plan-keeps j a)
+pub planned-accepted : (j : Job) → Accepted j → check (instance j) (byTask (instance j) (planned (instance j))) ≡ none
+planned-accepted j a = keeps-yes (instance j) (byTask (instance j) (planned (instance j))) (planned-keeps-rules j a)

@@ -1,18 +1,22 @@
+-- definitions, in the order of document 01
 pub mod Lists
 pub mod Instance
 pub mod Schedule
+pub mod Topology
 pub mod Rule
 pub mod Cover
 pub mod Dearest
 pub mod Checker
 pub mod Ideal
-pub mod Topology
 pub mod OfJob
+-- what holds of them
 pub mod Cases
 pub mod Placing
 pub mod Verdict
-pub mod Chains
 pub mod Walks
+pub mod Chains
 pub mod WorstCase
 pub mod Jobs
+pub mod ChainJob
+-- the proofs
 pub mod Laws

@@ -42,7 +42,7 @@ unfoldable pub keep : {A : Type 0} → (A → A → Bool) → A → Option A →
 keep beats x none = x
 keep beats x (some y) = pick (beats y x) y x
 
--- the first member of a list that no other beats; none in the empty list
+-- the first member of a list that no other beats (`beats` is strict: equals do not beat one another); none in the empty list
 unfoldable pub best : {A : Type 0} → (A → A → Bool) → List A → Option A
 best beats [] = none
 best beats (x ∷ xs) = some (keep beats x (best beats xs))

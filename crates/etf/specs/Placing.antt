@@ -1,21 +1,27 @@
 -- What the rounds come to: every task is placed exactly once, within 2m - 1 rounds.
-use mathlib.Core.Path.{_≡_, refl, sym, _∙_}
+use mathlib.Core.Path.{_≡_, sym, _∙_}
 use mathlib.Core.Bool.{not}
-use mathlib.Core.List.{map}
+use mathlib.Core.Option.{some}
+use mathlib.Core.List.{_∷_}
 use Prim.Native.Nat.{ℕ, suc, _-_, _*_, _≤_, _<_}
 use native.Mathlib.Omega.{arith}
 use lib.Dec.{eqb}
 use lib.Dec.{T as Holds}
-use lib.ListN.{length, replicate, length-replicate, getD-replicate}
-use Rattle.job.specs.Job.{Edge}
-use Rattle.etf.specs.Lists.{_∈_, upto, filter}
-use Rattle.etf.specs.Instance.{Instance, WellFormed, TaskChain, tasks, duration}
+use lib.ListN.{length}
+use Rattle.etf.specs.Lists.{_∈_, filter}
+use Rattle.etf.specs.Instance.{Instance, WellFormed, TaskChain, tasks}
 use Rattle.etf.specs.Schedule.{Placement}
-use Rattle.etf.specs.Rule.{begin, complete, run, planned, rounds}
-use Rattle.etf.specs.Laws.Lists.{upto-in, upto-of, map-in, map-of}
+use Rattle.etf.specs.Rule.{State, begin, nextMoment, complete, round, run, planned, rounds}
+use Rattle.etf.specs.Laws.Tests.{not-both}
+use Rattle.etf.specs.Laws.Turn.{Turn, rest, put, tick, stuck, turn}
 use Rattle.etf.specs.Laws.Planned
 use Rattle.etf.specs.Laws.Rounds
 use Rattle.etf.specs.Laws.Count
+
+-- what a round does (02 §14: "A round is a placing, or a move of the clock while steps remain unplaced"): the move is to NM, which is ahead
+pub data Round (I : Instance) (st : State) : State → Type 0 where
+  places : (u : Placement) → Round I st (record { clock = st .clock; placements = u ∷ st .placements })
+  moves : (x : ℕ) → nextMoment I (st .clock) (st .placements) ≡ some x → st .clock < x → Round I st (record { clock = x; placements = st .placements })
 
 module _ (I : Instance) (W : WellFormed I) where
   -- every task is placed exactly once
@@ -38,47 +44,26 @@ module _ (I : Instance) (W : WellFormed I) where
   pub rounds-complete : Holds (complete I (run I (rounds I) begin .placements))
   rounds-complete = Count.rounds-complete I W
 
+  -- each of them places a task or moves the clock
+  pub each-round : (k : ℕ) → k < rounds I → Round I (run I k begin) (run I (suc k) begin)
+  each-round k h = rw (Rounds.run-last I W k begin) (go (round I st) (turn I W (st .clock) (st .placements)))
+    where
+      st : State
+      st = run I k begin
+
+      none-left : Holds (complete I (st .placements)) → ⊥
+      none-left = not-both (complete I (st .placements)) (rounds-open k h)
+
+      go : (nx : State) → Turn I (st .clock) (st .placements) nx → Round I st nx
+      go nx (rest c) = absurd (none-left c)
+      go nx (put u K) = places u
+      go nx (tick x K) = moves x (K .moment) (K .ahead)
+      go nx (stuck y z) = absurd (none-left (Rounds.none-stuck I W (st .clock) (st .placements) y z))
+
   -- they are at most 2m - 1
   pub rounds-most : rounds I ≤ 2 * tasks I - 1
   rounds-most = omega (arith, Count.rounds-most I W)
 
-  -- and as many on a chain
+  -- and exactly that many on a chain, whatever the number of processors (`ChainJob.antt` has one for each)
   pub chain-rounds : TaskChain I → rounds I ≡ 2 * tasks I - 1
   chain-rounds C = omega (arith, Count.chain-rounds I W C)
-
--- m tasks of one tick in a chain, on n processors
-unfoldable pub chainOf : ℕ → ℕ → Instance
-chainOf n m = record {
-  processors = n;
-  durations = replicate m 1;
-  edges = map (λ T. record { from = T; to = suc T; count = 1 }) (upto (m - 1));
-  cost = λ p q. 0;
-  order = upto m;
-}
-
--- they are well-formed, and a chain
-pub chain-of : (n m : ℕ) → 1 ≤ n → 1 ≤ m → WellFormed (chainOf n m) × TaskChain (chainOf n m)
-unfolding chainOf duration
-chain-of n m b h = (
-  record {
-    some-processor = b;
-    some-task = omega (arith, long);
-    takes-time = λ T q. omega (arith, getD-replicate m T one 0 (omega (arith, long)));
-    goes-up = λ e q. up e (map-of arrow (upto (m - 1)) e q);
-    has-all = λ T q. upto-in m T (omega (arith, long));
-    has-only = λ T q. omega (arith, long, upto-of m T q);
-  },
-  λ T q. (arrow T, map-in arrow (upto (m - 1)) T (upto-in (m - 1) T (omega (arith, long))), refl, refl),
-)
-  where
-    one : ℕ
-    one = 1
-
-    long : tasks (chainOf n m) ≡ m
-    long = length-replicate m one
-
-    arrow : ℕ → Edge
-    arrow T = record { from = T; to = suc T; count = 1 }
-
-    up : (e : Edge) → (T : ℕ) × (T ∈ upto (m - 1)) × (e ≡ arrow T) → (e .from < e .to) × (e .to < tasks (chainOf n m))
-    up e z = rw (z .2) (omega arith, omega (arith, long, upto-of (m - 1) (z .0) (z .1)))

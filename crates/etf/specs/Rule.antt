@@ -19,17 +19,17 @@ pub record State : Type 0 where
 abbrev pub begin : State
 begin = record { clock = 0; placements = [] }
 
--- 01: a start is at most NM; NM is none where it is endless
+-- start s is at most NM, which is none where 01 says endless
 unfoldable pub atMost : ℕ → Option ℕ → Bool
 atMost s none = true
 atMost s (some x) = leb s x
 
--- 01: "CM becomes NM"
+-- 01: "CM becomes NM". Were NM endless the clock would stay; while tasks remain that does not happen (`Placing.antt`, `each-round`)
 unfoldable pub move : State → Option ℕ → State
 move st none = st
 move st (some x) = record { clock = x; placements = st .placements }
 
--- 01: "If that start is at most NM, place the step"; "If it is above NM, place nothing", or if there is no pair: the clock moves
+-- 01: "If that start is at most NM, place the step .. If it is above NM, place nothing"; where nothing is placed, for want of a pair too, the clock moves
 unfoldable pub settle : State → Option ℕ → Option Placement → State
 settle st nm none = move st nm
 settle st nm (some u) = pick (atMost (u .start) nm) (record { clock = st .clock; placements = u ∷ st .placements }) (move st nm)
@@ -47,19 +47,19 @@ module _ (I : Instance) where
   unfoldable pub finished : ℕ → List Placement → Edge → Bool
   finished cm ps e = placed ps (e .from) && leb (finish I (placementOf ps (e .from))) cm
 
-  -- a task that is not placed is ready (01: "A step is ready when all its predecessors have finished at or before CM")
+  -- task T is not yet placed, and is ready (01: "A step is ready when all its predecessors have finished at or before CM")
   unfoldable pub ready : ℕ → List Placement → ℕ → Bool
   ready cm ps T = not (placed ps T) && all (finished cm ps) (into I T)
 
-  -- a ready task and a free processor (01: "each pair has the start max(CM, arrival)")
+  -- task T on processor P (01: "each pair has the start max(CM, arrival)")
   unfoldable pub pair : ℕ → List Placement → ℕ → ℕ → Placement
   pair cm ps T P = record { task = T; processor = P; start = max cm (arrival I ps T P) }
 
-  -- the pairs, by the order of the tasks, then by processor
+  -- the pairs of a ready task and a free processor: by `order`, then by processor
   unfoldable pub pairs : ℕ → List Placement → List Placement
   pairs cm ps = flatMap (λ T. map (pair cm ps T) (filter (free cm ps) (upto (I .processors)))) (filter (ready cm ps) (I .order))
 
-  -- 01: "Take the smallest start; ties go to the lowest step number, then the lowest board": the first pair of smallest start
+  -- 01: "Take the smallest start; ties go to the lowest step number, then the lowest board": the first pair of smallest start, as a job's `order` is by number
   unfoldable pub choice : ℕ → List Placement → Option Placement
   choice cm ps = best (λ u v. ltb (u .start) (v .start)) (pairs cm ps)
 
@@ -77,7 +77,7 @@ module _ (I : Instance) where
   run zero st = st
   run (suc k) st = run k (round st)
 
-  -- the planner's plan, newest placement first: 2m rounds place every task, and further rounds change nothing (`Placing.antt`)
+  -- the planner's schedule (01: plan), newest placement first: 2m rounds place every task, and further rounds change nothing (`Placing.antt`)
   unfoldable pub planned : List Placement
   planned = run (2 * tasks I) begin .placements
 

@@ -18,7 +18,7 @@ pub record Placement : Type 0 where
 unfoldable pub placed : List Placement → ℕ → Bool
 placed ps T = any (λ u. eqb (u .task) T) ps
 
--- the placement of task T (of a task that is not placed: processor 0 at 0, which no rule looks at)
+-- the placement of task T. Of a task that is not placed it is processor 0 at 0: the planning rule asks `placed` first, and walks are of whole schedules
 unfoldable pub placementOf : List Placement → ℕ → Placement
 placementOf [] T = record { task = T; processor = 0; start = 0 }
 placementOf (u ∷ ps) T = pick (eqb (u .task) T) u (placementOf ps T)

@@ -165,6 +165,12 @@ module _ (I : Instance) where
     unfolding planned
     all-placed = complete-at (run I (2 * tasks I) begin .placements) (enough-rounds (2 * tasks I) (omega arith))
 
+    -- the last of suc k rounds
+    pub run-last : (k : ℕ) (st : State) → run I (suc k) st ≡ round I (run I k st)
+    unfolding run
+    run-last zero st = refl
+    run-last (suc k) st = run-last k (round I st)
+
     run-on : (a b : ℕ) (st : State) → run I (a + b) st ≡ run I b (run I a st)
     unfolding run
     run-on zero b st = rw (zero-add b) refl

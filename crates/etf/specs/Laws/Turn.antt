@@ -91,6 +91,7 @@ module _ (I : Instance) where
   -- what is known when the round moves the clock to x
   pub record Tick (cm : ℕ) (ps : List Placement) (x : ℕ) : Type 0 where
     pub whose : (v : Placement) × (v ∈ ps) × (finish I v ≡ x)
+    pub moment : nextMoment I cm ps ≡ some x
     pub ahead : cm < x
     pub least : (v : Placement) → v ∈ ps → cm < finish I v → x ≤ finish I v
     pub too-late : (T P : ℕ) → Ready cm ps T → P < I .processors → Holds (free I cm ps P) → x < max cm (arrival I ps T P)
@@ -160,27 +161,28 @@ module _ (I : Instance) where
 
     pub turn : (cm : ℕ) (ps : List Placement) → Turn cm ps (round I (record { clock = cm; placements = ps }))
     unfolding round settle move atMost choice pair
-    turn cm ps = go (complete I ps) refl (nextMoment I cm ps) (next-is cm ps) (choice I cm ps) (best-is sooner (by-least (λ u. u .start)) (pairs I cm ps))
+    turn cm ps = go (complete I ps) refl (nextMoment I cm ps) refl (next-is cm ps) (choice I cm ps) (best-is sooner (by-least (λ u. u .start)) (pairs I cm ps))
       where
-        placing : (nm : Option ℕ) → Next cm ps nm → (u : Placement) → u ∈ pairs I cm ps → ((v : Placement) → v ∈ pairs I cm ps → u .start ≤ v .start)
+        placing : (nm : Option ℕ) → nextMoment I cm ps ≡ nm → Next cm ps nm → (u : Placement) → u ∈ pairs I cm ps → ((v : Placement) → v ∈ pairs I cm ps → u .start ≤ v .start)
             → (b : Bool) → atMost (u .start) nm ≡ b
             → Turn cm ps (pick b (record { clock = cm; placements = u ∷ ps }) (move (record { clock = cm; placements = ps }) nm))
-        placing nm (endless z) u h le true e = put u (put-of cm ps u h le (λ v q a. absurd (z v q a)))
-        placing nm (endless z) u h le false e = absurd (subst Holds e tt)
-        placing nm (at x w a l) u h le true e =
+        placing nm i (endless z) u h le true e = put u (put-of cm ps u h le (λ v q a. absurd (z v q a)))
+        placing nm i (endless z) u h le false e = absurd (subst Holds e tt)
+        placing nm i (at x w a l) u h le true e =
             put u (put-of cm ps u h le (λ v q k. omega (arith, l v q k, leb→le (u .start) x (subst Holds (sym e) tt))))
-        placing nm (at x w a l) u h le false e =
+        placing nm i (at x w a l) u h le false e =
             tick x record {
               whose = w;
+              moment = i;
               ahead = a;
               least = l;
               too-late = λ T P r b f. omega (arith, nleb→lt (u .start) x (subst (λ c. Holds (not c)) (sym e) tt), le (pair I cm ps T P) (pair-in cm ps T P r b f));
             }
 
-        go : (b : Bool) → complete I ps ≡ b → (nm : Option ℕ) → Next cm ps nm → (o : Option Placement) → Best sooner (pairs I cm ps) o
+        go : (b : Bool) → complete I ps ≡ b → (nm : Option ℕ) → nextMoment I cm ps ≡ nm → Next cm ps nm → (o : Option Placement) → Best sooner (pairs I cm ps) o
             → Turn cm ps (pick b (record { clock = cm; placements = ps }) (settle (record { clock = cm; placements = ps }) nm o))
-        go true e nm N o L = rest (subst Holds (sym e) tt)
-        go false e nm (endless y) o (nothing z) = stuck y (λ T P r b f. z (pair I cm ps T P) (pair-in cm ps T P r b f))
-        go false e nm (at x w a l) o (nothing z) =
-            tick x record { whose = w; ahead = a; least = l; too-late = λ T P r b f. absurd (z (pair I cm ps T P) (pair-in cm ps T P r b f)) }
-        go false e nm N o (found u h le) = placing nm N u h (λ v k. nltb→le (v .start) (u .start) (le v k)) (atMost (u .start) nm) refl
+        go true e nm i N o L = rest (subst Holds (sym e) tt)
+        go false e nm i (endless y) o (nothing z) = stuck y (λ T P r b f. z (pair I cm ps T P) (pair-in cm ps T P r b f))
+        go false e nm i (at x w a l) o (nothing z) =
+            tick x record { whose = w; moment = i; ahead = a; least = l; too-late = λ T P r b f. absurd (z (pair I cm ps T P) (pair-in cm ps T P r b f)) }
+        go false e nm i N o (found u h le) = placing nm i N u h (λ v k. nltb→le (v .start) (u .start) (le v k)) (atMost (u .start) nm) refl
