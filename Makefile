@@ -1,8 +1,9 @@
-# make test      the gate: the cases are what the generator makes, then all is proved, refused and run from nothing
-# make check     proves what has changed, and runs the programs
-# make vectors   makes the cases of crates/vectors again
-# make bench     times the job reader and writer against a plain Rust reader and writer
-# make clean     removes what was made
+# make test         the gate: the cases are what the generator makes, then all is proved, refused and run from nothing
+# make check        proves what has changed, and runs the programs
+# make vectors      makes the cases of crates/vectors again
+# make definitions  holds the definitions of crate etf to the reference planner on random jobs: SEED=.. JOBS=..
+# make bench        times the job reader and writer against a plain Rust reader and writer
+# make clean        removes what was made
 
 need = @command -v $(1) >/dev/null 2>&1 || { echo "$(1) is not on the path: $(2)"; exit 2; }
 need-rt = $(call need,rt,install the Rattle kit and link its bin/rt)
@@ -10,7 +11,7 @@ need-python = $(call need,python3,install Python 3)
 need-rust = $(call need,rustc,install Rust)
 need-cc = $(call need,cc,install a C compiler; rustc links with it)
 
-.PHONY: test check vectors bench clean
+.PHONY: test check vectors definitions bench clean
 
 test:
 	@.ci/run
@@ -22,6 +23,11 @@ check:
 vectors:
 	$(need-python)
 	@python3 tests/make_vectors.py
+
+definitions:
+	$(need-rt)
+	$(need-python)
+	@python3 tests/definitions.py seed=$(SEED) jobs=$(JOBS)
 
 bench:
 	$(need-rt)

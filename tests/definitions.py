@@ -1,7 +1,7 @@
 #!/usr/bin/env python3
 """Holds the definitions of crate etf to the reference planner on random small jobs, before there is code or proof.
 
-    definitions.py [SEED [JOBS]]     the seed is printed; 40 jobs if not told
+    definitions.py [seed=N] [jobs=N]     a random seed, which is printed, and 40 jobs if not told
 
 It writes a crate `held` below target/definitions with a theorem a job, each by computing the definitions: the plan, its end, C,
 the dearest chain, the rounds, the arrivals and the square of costs, and the checker's answers to some plans. `rt dev` then
@@ -116,8 +116,14 @@ def theorem(i, dice):
 
 
 def main(words):
-    seed = int(words[0]) if words else random.randrange(10**6)
-    count = int(words[1]) if len(words) > 1 else 40
+    told = {"seed": "", "jobs": ""}
+    for word in words:
+        name, _, value = word.partition("=")
+        if name not in told or value and not value.isdigit():
+            sys.exit(__doc__)
+        told[name] = value
+    seed = int(told["seed"] or random.randrange(10**6))
+    count = int(told["jobs"] or 40)
     dice = random.Random(seed)
     print(f"seed {seed}, {count} jobs", flush=True)
     uses = "\n".join(f"use Rattle.etf.specs.{file}.{{{', '.join(names.split())}}}" for file, names in NAMES.items())
