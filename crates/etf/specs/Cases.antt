@@ -17,9 +17,11 @@ use Rattle.etf.specs.Checker.{firstAnswer, misplaced, overlap, early, ch
 use Rattle.etf.specs.Topology.{hypercubeHops, difference, ringHops, hops, cost}
 use Rattle.etf.specs.OfJob.{instance}
 
--- what a case asks: the plan of a job, the hops between two boards, the planner's rounds, or the checker's answer to a plan's boards and starts
+-- what a case asks: the plan of a job, its plan with another priority order, the hops between two boards, the planner's rounds,
+-- or the checker's answer to a plan's boards and starts
 pub data Question : Type 0 where
   planOf : Job → Question
+  planBy : List ℕ → Job → Question
   hopsOf : Platform → ℕ → ℕ → Question
   roundsOf : Job → Question
   answerTo : Job → List ℕ → List ℕ → Question
@@ -30,6 +32,10 @@ printed I =
     map (λ (u : Placement). u .task ∷ u .processor ∷ u .start ∷ finish I u ∷ []) (byTask I (planned I))
     ++ ((end I (planned I) ∷ []) ∷ (cover I ∷ []) ∷ (dearest I ∷ []) ∷ [])
 
+-- the same instance, its tasks by another priority
+abbrev by : List ℕ → Instance → Instance
+by order I = record { processors = I .processors; durations = I .durations; edges = I .edges; cost = I .cost; order = order }
+
 -- 0 for a yes, else the number
 abbrev refusal : Option ℕ → ℕ
 refusal none = 0
@@ -37,6 +43,7 @@ refusal (some k) = k
 
 pub answer : Question → List (List ℕ)
 answer (planOf j) = printed (instance j)
+answer (planBy order j) = printed (by order (instance j))
 answer (hopsOf r p q) = (hops r p q ∷ []) ∷ []
 answer (roundsOf j) = (rounds (instance j) ∷ []) ∷ []
 answer (answerTo j boards starts) =
@@ -106,6 +113,11 @@ cases =
     (row 0 0 0 1 ∷ row 1 0 1 2 ∷ row 2 0 2 3 ∷ totals 3 2 3)
     -- shortcut 5: the step with the last number does not finish last
     ∷ plan (rack 2 0 0) (5 ∷ 1 ∷ []) [] (row 0 0 0 5 ∷ row 1 1 0 1 ∷ totals 5 0 0)
+    -- D with the priority order 2, 1, 0: step 2 goes before step 1
+    ∷ record {
+      question = planBy (2 ∷ 1 ∷ 0 ∷ []) (record { platform = rack 2 0 1; tasks = 3 ∷ 2 ∷ 2 ∷ []; edges = link 0 1 1 ∷ link 0 2 1 ∷ [] });
+      lines = row 0 0 0 3 ∷ row 1 1 4 6 ∷ row 2 0 3 5 ∷ totals 6 1 1;
+    }
     -- one board: a link costs nothing, and the dearest chain is 0
     ∷ plan (rack 1 0 5) (1 ∷ 1 ∷ []) (link 0 1 3 ∷ []) (row 0 0 0 1 ∷ row 1 0 1 2 ∷ totals 2 0 0)
     -- a chain of 3 takes 5 rounds

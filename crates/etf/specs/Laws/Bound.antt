@@ -16,7 +16,7 @@ use Rattle.etf.specs.Laws.Tests.{le-or-lt}
 use Rattle.etf.specs.Laws.Lists.{greatest-ge, greatest-at, upto-in, upto-of}
 use Rattle.etf.specs.Laws.Sums.{sum}
 use Rattle.etf.specs.Laws.Placements.{into-in, arrival-ge}
-use Rattle.etf.specs.Laws.Ticks.{idlers, rival-work, our-work}
+use Rattle.etf.specs.Laws.Ticks.{idlers, ideal-work, our-work}
 use Rattle.etf.specs.Laws.Walk.{walk-bound}
 use Rattle.etf.specs.Laws.Planned.{apart-pairs, last-clock, sound-plan, whole, home, on-processor, by-end, last-task}
 
@@ -41,7 +41,7 @@ module _ (I : Instance) (W : WellFormed I) where
       (sum (tasks I) (duration I)) (sum (end I (planned I)) (idlers I (planned I))) n
       (our-work I (last-clock I W) (planned I) (sound-plan I W) (end I (planned I)) (on-processor I W)
       (λ S c. omega (arith, by-end I W S c, ap (duration I) (home I W S c .1))))
-      (rival-work I R (makespan I R) (by-makespan R))
+      (ideal-work I R (makespan I R) (by-makespan R))
       (omega (
         arith,
         walk-bound I (planned I) (last-clock I W) (sound-plan I W) (whole I W) W R q n T C b w,

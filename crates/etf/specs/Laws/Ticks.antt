@@ -59,7 +59,7 @@ module _ (processor start d : ℕ → ℕ) where
           sum-swap n m (λ P T. one-if (runs T P t))
           ∙ sum-same m (λ T. sum n (λ P. one-if (runs T P t))) (λ T. one-if (running (start T) (d T) t)) (λ T k. by-task t T k)
 
--- ---- the rival
+-- ---- an ideal schedule
 
 module _ (I : Instance) (R : Ideal I) where
   one-at-a-time : (P t : ℕ) → sum (tasks I) (λ T. one-if (runs (R .processor) (R .start) (duration I) T P t)) ≤ 1
@@ -74,9 +74,9 @@ module _ (I : Instance) (R : Ideal I) where
           let y = runs-of (R .processor) (R .start) (duration I) T P t b in
           elim (R .apart S T (omega arith) tm (omega arith) (x .0 ∙ sym (y .0))) [ inl k ↦ omega arith | inr k ↦ omega arith ]
 
-  -- the durations together are at most n times a bound on the rival's finishes
-  pub rival-work : (F : ℕ) → ((T : ℕ) → T < tasks I → R .start T + duration I T ≤ F) → sum (tasks I) (duration I) ≤ I .processors * F
-  rival-work F e =
+  -- the durations together are at most n times a bound on an ideal schedule's finishes
+  pub ideal-work : (F : ℕ) → ((T : ℕ) → T < tasks I → R .start T + duration I T ≤ F) → sum (tasks I) (duration I) ≤ I .processors * F
+  ideal-work F e =
       omega (
         arith,
         work (R .processor) (R .start) (duration I) (tasks I) (I .processors) F (R .on-processor) e,
