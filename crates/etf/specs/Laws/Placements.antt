@@ -59,7 +59,7 @@ placement-of (u ∷ ps) T h = go (either (eqb (u .task) T)) (λ k. placement-of 
         let z = r (placed-less u ps T ne h) in
         rw (placement-tail u ps T ne) (there (z .0), z .1)
 
--- ---- links and arrivals
+-- ---- edges and arrivals
 
 module _ (I : Instance) where
   pub into-of : (T : ℕ) (l : Edge) → l ∈ into I T → (l ∈ I .edges) × (l .to ≡ T)

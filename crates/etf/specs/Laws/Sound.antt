@@ -44,7 +44,7 @@ module _ (I : Instance) where
     -- no start lies after a finish that is still ahead
     pub by-finish : (u v : Placement) → u ∈ ps → v ∈ ps → cm < finish I v → u .start ≤ finish I v
     -- no start lies after what a ready task could have on a free processor
-    pub by-option : (u : Placement) → u ∈ ps → (T P : ℕ) → Ready I cm ps T → P < I .processors → Holds (free I cm ps P)
+    pub by-pair : (u : Placement) → u ∈ ps → (T P : ℕ) → Ready I cm ps T → P < I .processors → Holds (free I cm ps P)
         → u .start ≤ max cm (arrival I ps T P)
     -- where a start is still ahead, a ready task would arrive no earlier on its processor
     pub by-arrival : (u : Placement) → u ∈ ps → (T : ℕ) → cm < u .start → Ready I cm ps T → u .start ≤ arrival I ps T (u .processor)
@@ -87,7 +87,7 @@ module _ (I : Instance) where
     opened = S .opened;
     arrived = S .arrived;
     by-finish = λ u v h k f. S .by-finish u v h k (omega (arith, K .ahead));
-    by-option = λ u h T P r b f. omega (arith, started u h);
+    by-pair = λ u h T P r b f. omega (arith, started u h);
     by-arrival = λ u h T f r. absurd (omega (arith, started u h));
     full-open = λ T P t f b o p tx at. open-full T P t f b o p tx at (le-or-lt cm t);
     full = S .full;
@@ -110,11 +110,11 @@ module _ (I : Instance) where
     other : (T : ℕ) → Holds (placed ps T) → ¬ (u .task ≡ T)
     other T h e = not-both (placed ps T) (subst (λ t. Holds (not (placed ps t))) e (K .task-ready .fresh)) h
 
-    same-placementOf : (T : ℕ) → Holds (placed ps T) → placementOf (u ∷ ps) T ≡ placementOf ps T
-    same-placementOf T h = placement-tail u ps T (other T h)
+    same-placement : (T : ℕ) → Holds (placed ps T) → placementOf (u ∷ ps) T ≡ placementOf ps T
+    same-placement T h = placement-tail u ps T (other T h)
 
     pub same-arrival : (T P : ℕ) → Opened ps T → arrival I (u ∷ ps) T P ≡ arrival I ps T P
-    same-arrival T P o = arrival-same I (u ∷ ps) ps T P (λ l h. same-placementOf (l .from) (o l h))
+    same-arrival T P o = arrival-same I (u ∷ ps) ps T P (λ l h. same-placement (l .from) (o l h))
 
     ends-later : cm < finish I u
     ends-later = omega (arith, K .when, W .takes-time (u .task) (K .task-ready .below))
@@ -164,7 +164,7 @@ module _ (I : Instance) where
         for-cons (λ v. (w : Placement) → w ∈ (u ∷ ps) → cm < finish I w → v .start ≤ finish I w)
         (for-cons (λ w. cm < finish I w → u .start ≤ finish I w) (λ f. omega arith) (K .in-time))
         (λ v h. for-cons (λ w. cm < finish I w → v .start ≤ finish I w)
-        (λ f. omega (arith, K .when, S .by-option v h (u .task) (u .processor) (K .task-ready) (K .processor-below) (K .processor-free)))
+        (λ f. omega (arith, K .when, S .by-pair v h (u .task) (u .processor) (K .task-ready) (K .processor-below) (K .processor-free)))
         (λ w k f. S .by-finish v w h k f))
 
     pub after-put : Sound cm (u ∷ ps)
@@ -178,9 +178,9 @@ module _ (I : Instance) where
           (omega (arith, K .when, same-arrival (u .task) (u .processor) (ready-open (u .task) (K .task-ready))))
           (λ v k. omega (arith, same-arrival (v .task) (v .processor) (S .opened v k), S .arrived v k));
       by-finish = λ v w h k f. finish-new v h w k f;
-      by-option = for-cons (λ v. (T P : ℕ) → Ready I cm (u ∷ ps) T → P < I .processors → Holds (free I cm (u ∷ ps) P) → v .start ≤ max cm (arrival I (u ∷ ps) T P))
+      by-pair = for-cons (λ v. (T P : ℕ) → Ready I cm (u ∷ ps) T → P < I .processors → Holds (free I cm (u ∷ ps) P) → v .start ≤ max cm (arrival I (u ∷ ps) T P))
           (λ T P r p f. let q = ready-back T r in omega (arith, same-arrival T P (ready-open T q), K .least T P q p (free-back P f)))
-          (λ v h T P r p f. let q = ready-back T r in omega (arith, same-arrival T P (ready-open T q), S .by-option v h T P q p (free-back P f)));
+          (λ v h T P r p f. let q = ready-back T r in omega (arith, same-arrival T P (ready-open T q), S .by-pair v h T P q p (free-back P f)));
       by-arrival = for-cons (λ v. (T : ℕ) → cm < v .start → Ready I cm (u ∷ ps) T → v .start ≤ arrival I (u ∷ ps) T (v .processor))
           (λ T c r. let q = ready-back T r in omega (arith, same-arrival T (u .processor) (ready-open T q), K .least T (u .processor) q (K .processor-below) (K .processor-free)))
           (λ v h T c r. let q = ready-back T r in omega (arith, same-arrival T (v .processor) (ready-open T q), S .by-arrival v h T c q));
@@ -202,7 +202,7 @@ module _ (I : Instance) where
     opened = λ u h. absurd (in-nothing h);
     arrived = λ u h. absurd (in-nothing h);
     by-finish = λ u v h. absurd (in-nothing h);
-    by-option = λ u h. absurd (in-nothing h);
+    by-pair = λ u h. absurd (in-nothing h);
     by-arrival = λ u h. absurd (in-nothing h);
     full-open = λ T P t f b o p tc. absurd (omega arith);
     full = λ u h. absurd (in-nothing h);
