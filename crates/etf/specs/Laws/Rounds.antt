@@ -12,7 +12,7 @@ use Rattle.etf.specs.Lists.{_∈_, here, there, upto}
 use Rattle.etf.specs.Instance.{Instance, WellFormed, tasks}
 use Rattle.etf.specs.Schedule.{Placement, placed, placementOf, finish}
 use Rattle.etf.specs.Rule.{State, begin, free, complete, round, run, planned}
-use Rattle.etf.specs.Laws.Tests.{either, not-both, fails, or-right, pick-yes, le-or-lt}
+use Rattle.etf.specs.Laws.Tests.{either, not-both, not-not, fails, or-right, pick-yes, le-or-lt}
 use Rattle.etf.specs.Laws.Lists.{all-of, all-at, upto-in, upto-of}
 use Rattle.etf.specs.Laws.Sums.{one-if, one-if-yes, one-if-no, one-if-le, one-if-most, sum, sum-le, sum-less, sum-ge, sum-each}
 use Rattle.etf.specs.Laws.Placements.{placed-head, placed-more, placement-of, into-of}
@@ -45,11 +45,7 @@ module _ (I : Instance) where
       sum-less (tasks I) (u .task) (λ T. one-if (not (placed (u ∷ ps) T))) (λ T. one-if (not (placed ps T)))
       (λ T h. one-not (placed (u ∷ ps) T) (placed ps T) (placed-more u ps T))
       (K .task-ready .below)
-      (omega (arith, one-if-no (not (placed (u ∷ ps) (u .task))) (twice (placed (u ∷ ps) (u .task)) (placed-head u ps)), one-if-yes (not (placed ps (u .task))) (K .task-ready .fresh)))
-    where
-      twice : (b : Bool) → Holds b → Holds (not (not b))
-      twice true h = tt
-      twice false h = h
+      (omega (arith, one-if-no (not (placed (u ∷ ps) (u .task))) (not-not (placed (u ∷ ps) (u .task)) (placed-head u ps)), one-if-yes (not (placed ps (u .task))) (K .task-ready .fresh)))
 
   live-put : (cm : ℕ) (ps : List Placement) (u : Placement) → live cm (u ∷ ps) ≤ live cm ps + 1
   unfolding live
