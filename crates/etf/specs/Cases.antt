@@ -1,8 +1,8 @@
 -- The worked cases of document 01 ("Ticks worked out") in one table, held to the definitions by computing them; after them cases that its
 -- words settle and its list does not have, and the small inputs of the refusal table that are the checker's. In the document's words.
 use mathlib.Core.Option.{Option, none, some, bind, orElse}
-use mathlib.Core.Path.{_≡_, refl}
-use mathlib.Core.List.{List, [], _∷_, _++_, map, flatMap}
+use mathlib.Core.Path.{_≡_, refl, sym, _∙_}
+use mathlib.Core.List.{List, [], _∷_, _++_, map, flatMap, map-append}
 use Prim.Native.Nat.{ℕ}
 use lib.ListN.{getD}
 use Rattle.job.specs.declared.Platform.{Platform}
@@ -41,7 +41,9 @@ abbrev refusal : Option ℕ → ℕ
 refusal none = 0
 refusal (some k) = k
 
+-- the lines that answer a question; all definitions are opened, so that they compute
 pub answer : Question → List (List ℕ)
+unfolding printed instance upto any all filter greatest keep best duration into messageTime placed placementOf messageTimeTo arrival end scheduleOf byTask atMost move settle nextMoment free finished ready pair pairs choice complete round run planned roundsIn rounds running busy idle someIdle latestIdleTick lowestIdle later latestInto back walk lastTask cover greatestCost dearestTo dearest firstAnswer misplaced overlap early check hypercubeHops difference ringHops hops cost bind orElse flatMap
 answer (planOf j) = printed (instance j)
 answer (planBy order j) = printed (by order (instance j))
 answer (hopsOf r p q) = (hops r p q ∷ []) ∷ []
@@ -81,8 +83,9 @@ row T P s f = T ∷ P ∷ s ∷ f ∷ []
 abbrev totals : ℕ → ℕ → ℕ → List (List ℕ)
 totals e c d = (e ∷ []) ∷ (c ∷ []) ∷ (d ∷ []) ∷ []
 
-pub cases : List Case
-cases =
+-- document 01's worked cases
+pub worked : List Case
+worked =
     -- A
     plan (rack 2 0 2) (4 ∷ 3 ∷ 2 ∷ []) (link 0 2 1 ∷ link 1 2 3 ∷ []) (row 0 0 0 4 ∷ row 1 1 0 3 ∷ row 2 1 6 8 ∷ totals 8 6 6)
     -- B
@@ -101,8 +104,13 @@ cases =
     ∷ between (rack 5 2 1) 0 4 1
     -- L: ring of 6, 0 and 3
     ∷ between (rack 6 2 1) 0 3 3
+    ∷ []
+
+-- what its words settle beside them
+pub further : List Case
+further =
     -- shortcut 3, E with one task more: board 1 is promised to step 2 from 5 on, so it is not free at 3, and step 3 waits for board 0
-    ∷ plan (rack 2 0 2) (3 ∷ 2 ∷ 2 ∷ 2 ∷ []) (link 0 1 1 ∷ link 0 2 1 ∷ link 0 3 1 ∷ [])
+    plan (rack 2 0 2) (3 ∷ 2 ∷ 2 ∷ 2 ∷ []) (link 0 1 1 ∷ link 0 2 1 ∷ link 0 3 1 ∷ [])
     (row 0 0 0 3 ∷ row 1 0 3 5 ∷ row 2 1 5 7 ∷ row 3 0 5 7 ∷ totals 7 2 2)
     -- the walk begins with the lowest of two steps that finish last, 1 and not 2
     ∷ plan (rack 2 0 1) (1 ∷ 3 ∷ 1 ∷ []) (link 0 1 1 ∷ link 0 2 2 ∷ []) (row 0 0 0 1 ∷ row 1 0 1 4 ∷ row 2 1 3 4 ∷ totals 4 1 2)
@@ -122,8 +130,13 @@ cases =
     ∷ plan (rack 1 0 5) (1 ∷ 1 ∷ []) (link 0 1 3 ∷ []) (row 0 0 0 1 ∷ row 1 0 1 2 ∷ totals 2 0 0)
     -- a chain of 3 takes 5 rounds
     ∷ record { question = roundsOf (record { platform = rack 2 0 1; tasks = 2 ∷ 1 ∷ 3 ∷ []; edges = link 0 1 1 ∷ link 1 2 1 ∷ [] }); lines = (5 ∷ []) ∷ [] }
+    ∷ []
+
+-- the refusal table's small inputs of 10 to 13, and what stands beside their limits
+pub checks : List Case
+checks =
     -- 10: n = 2, board 2
-    ∷ checked (5 ∷ []) [] (2 ∷ []) (0 ∷ []) 10
+    checked (5 ∷ []) [] (2 ∷ []) (0 ∷ []) 10
     -- 11: start 600,000,001; one less is taken
     ∷ checked (5 ∷ []) [] (0 ∷ []) (600000001 ∷ []) 11
     ∷ checked (5 ∷ []) [] (0 ∷ []) (600000000 ∷ []) 0
@@ -140,7 +153,34 @@ cases =
     ∷ checked (5 ∷ 5 ∷ []) (link 0 1 1 ∷ []) (0 ∷ 0 ∷ []) (0 ∷ 4 ∷ []) 12
     ∷ []
 
--- each question of the table is answered by its lines
-pub cases-hold : map (λ (c : Case). answer (c .question)) cases ≡ map (λ (c : Case). c .lines) cases
-unfolding cases answer printed instance upto any all filter greatest keep best duration into messageTime placed placementOf messageTimeTo arrival end scheduleOf byTask atMost move settle nextMoment free finished ready pair pairs choice complete round run planned roundsIn rounds running busy idle someIdle latestIdleTick lowestIdle later latestInto back walk lastTask cover greatestCost dearestTo dearest firstAnswer misplaced overlap early check hypercubeHops difference ringHops hops cost bind orElse flatMap
-cases-hold = refl
+-- the table
+pub cases : List Case
+cases = worked ++ (further ++ checks)
+
+-- the lines of each case of a table answer its question
+abbrev pub Right : List Case → Type 0
+Right cs = map (λ (c : Case). answer (c .question)) cs ≡ map (λ (c : Case). c .lines) cs
+
+-- two tables that hold make one that holds
+join : (a b : List Case) → Right a → Right b → Right (a ++ b)
+join a b p q =
+    map-append (λ (c : Case). answer (c .question)) a b
+    ∙ cc (p, q)
+    ∙ sym (map-append (λ (c : Case). c .lines) a b)
+
+worked-right : Right worked
+unfolding worked answer
+worked-right = refl
+
+further-right : Right further
+unfolding further answer
+further-right = refl
+
+checks-right : Right checks
+unfolding checks answer
+checks-right = refl
+
+-- the table holds
+pub cases-hold : Right cases
+unfolding cases
+cases-hold = join worked (further ++ checks) worked-right (join further checks further-right checks-right)
