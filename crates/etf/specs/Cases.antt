@@ -109,7 +109,7 @@ worked =
 -- what its words settle beside them
 pub further : List Case
 further =
-    -- shortcut 3, E with one task more: board 1 is promised to step 2 from 5 on, so it is not free at 3, and step 3 waits for board 0
+    -- shortcut 3, E with one step more: board 1 is promised to step 2 from 5 on, so it is not free at 3, and step 3 waits for board 0
     plan (rack 2 0 2) (3 ∷ 2 ∷ 2 ∷ 2 ∷ []) (link 0 1 1 ∷ link 0 2 1 ∷ link 0 3 1 ∷ [])
     (row 0 0 0 3 ∷ row 1 0 3 5 ∷ row 2 1 5 7 ∷ row 3 0 5 7 ∷ totals 7 2 2)
     -- the walk begins with the lowest of two steps that finish last, 1 and not 2

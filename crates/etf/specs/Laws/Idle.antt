@@ -50,17 +50,18 @@ module _ (I : Instance) (ps : List Placement) where
   pub latest-idle-tick : (s : ℕ) → LatestIdleTick s (latestIdleTick I ps s)
   unfolding latestIdleTick
   latest-idle-tick zero = never (λ t h. absurd (omega arith))
-  latest-idle-tick (suc s) = go (either (someIdle I ps s)) (someIdle I ps s) refl (latestIdleTick I ps s) (latest-idle-tick s)
+  latest-idle-tick (suc s) = go (someIdle I ps s) refl (latestIdleTick I ps s) (latest-idle-tick s)
     where
-      up : (t : ℕ) → Holds (not (someIdle I ps s)) → (t < s → Holds (not (someIdle I ps t))) → (suc t ≤ s) ⊎ (s < suc t) → t < suc s → Holds (not (someIdle I ps t))
-      up t n r (inl k) h = r k
-      up t n r (inr k) h = let e : s ≡ t = omega arith in subst (λ x. Holds (not (someIdle I ps x))) e n
+      -- tick s is not short, nor is t where that is before s
+      up : (t : ℕ) → someIdle I ps s ≡ false → (t < s → Holds (not (someIdle I ps t))) → (suc t ≤ s) ⊎ (s < suc t) → t < suc s
+          → Holds (not (someIdle I ps t))
+      up t e r (inl k) h = r k
+      up t e r (inr k) h = let d : t ≡ s = omega arith in rw (d, e) tt
 
-      go : Holds (someIdle I ps s) ⊎ Holds (not (someIdle I ps s)) → (b : Bool) → someIdle I ps s ≡ b → (o : Option ℕ) → LatestIdleTick s o → LatestIdleTick (suc s) (pick b (some s) o)
-      go x true e o L = at s (omega arith) (subst Holds (sym e) tt) (λ r a b. absurd (omega arith))
-      go (inl x) false e o L = absurd (subst Holds e x)
-      go (inr x) false e o (never z) = never (λ t h. up t x (z t) (le-or-lt (suc t) s) h)
-      go (inr x) false e o (at t a b z) = at t (omega arith) b (λ r c d. up r x (z r c) (le-or-lt (suc r) s) d)
+      go : (b : Bool) → someIdle I ps s ≡ b → (o : Option ℕ) → LatestIdleTick s o → LatestIdleTick (suc s) (pick b (some s) o)
+      go true e o L = at s (omega arith) (subst Holds (sym e) tt) (λ r a b. absurd (omega arith))
+      go false e o (never z) = never (λ t h. up t e (z t) (le-or-lt (suc t) s) h)
+      go false e o (at t a b z) = at t (omega arith) b (λ r c d. up r e (z r c) (le-or-lt (suc r) s) d)
 
   -- ---- idle ticks
 

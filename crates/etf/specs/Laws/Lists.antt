@@ -209,22 +209,21 @@ pub data Best {A : Type 0} (beats : A → A → Bool) (l : List A) : Option A �
   nothing : ((a : A) → a ∈ l → ⊥) → Best beats l none
   found : (b : A) → b ∈ l → ((a : A) → a ∈ l → Holds (not (beats a b))) → Best beats l (some b)
 
-keep-is : {A : Type 0} (beats : A → A → Bool) → Order beats → (x : A) (l : List A) (o : Option A) → Best beats l o → Best beats (x ∷ l) (some (keep beats x o))
+-- nothing beats itself
+self : {A : Type 0} (beats : A → A → Bool) → Order beats → (a : A) → Holds (not (beats a a))
+self beats O a = fails (beats a a) (λ h. not-both (beats a a) (O .one-way a a h) h)
+
+keep-is : {A : Type 0} (beats : A → A → Bool) → Order beats → (x : A) (l : List A) (o : Option A) → Best beats l o
+    → Best beats (x ∷ l) (some (keep beats x o))
 unfolding keep
 keep-is beats O x l none (nothing z) =
-    found x (here refl) (for-cons (λ a. Holds (not (beats a x))) (self x) (λ a h. absurd (z a h)))
-  where
-    self : (y : _) → Holds (not (beats y y))
-    self y = fails (beats y y) (λ h. not-both (beats y y) (O .one-way y y h) h)
+    found x (here refl) (for-cons (λ a. Holds (not (beats a x))) (self beats O x) (λ a h. absurd (z a h)))
 keep-is beats O x l (some y) (found b h low) = go (beats y x) refl
   where
-    self : (z : _) → Holds (not (beats z z))
-    self z = fails (beats z z) (λ k. not-both (beats z z) (O .one-way z z k) k)
-
     go : (t : Bool) → beats y x ≡ t → Best beats (x ∷ l) (some (pick t y x))
     go true e = found y (there h) (for-cons (λ a. Holds (not (beats a y))) (O .one-way y x (subst Holds (sym e) tt)) low)
     go false e =
-        found x (here refl) (for-cons (λ a. Holds (not (beats a x))) (self x)
+        found x (here refl) (for-cons (λ a. Holds (not (beats a x))) (self beats O x)
         (λ a k. O .through a y x (low a k) (subst (λ t. Holds (not t)) (sym e) tt)))
 
 pub best-is : {A : Type 0} (beats : A → A → Bool) → Order beats → (l : List A) → Best beats l (best beats l)
@@ -242,11 +241,8 @@ by-least f = record {
 
 -- and so is greater
 pub by-greatest : {A : Type 0} (f : A → ℕ) → Order (λ a b. ltb (f b) (f a))
-by-greatest f = record {
-  one-way = λ a b h. fails (ltb (f a) (f b)) (λ k. absurd (omega (arith, ltb→lt (f b) (f a) h, ltb→lt (f a) (f b) k)));
-  through = λ a b c h k.
-      fails (ltb (f c) (f a)) (λ q. absurd (omega (arith, nltb→le (f b) (f a) h, nltb→le (f c) (f b) k, ltb→lt (f c) (f a) q)));
-}
+by-greatest f =
+    record { one-way = λ a b h. by-least f .one-way b a h; through = λ a b c h k. by-least f .through c b a k h }
 
 -- and so is greater by f, then less by g
 pub by-greatest-then-least : {A : Type 0} (f g : A → ℕ) → Order (λ a b. ltb (f b) (f a) || (eqb (f a) (f b) && ltb (g a) (g b)))

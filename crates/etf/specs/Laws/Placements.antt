@@ -45,7 +45,7 @@ placed-less u ps T e h = go (or-cases (eqb (u .task) T) (placed ps T) h)
     go (inl k) = absurd (e (eqb→eq (u .task) T k))
     go (inr k) = k
 
--- a task that is placed has a placementOf, and it is there
+-- the placement of a placed task stands in the schedule
 pub placement-of : (ps : List Placement) (T : ℕ) → Holds (placed ps T) → (placementOf ps T ∈ ps) × (placementOf ps T .task ≡ T)
 unfolding placed any
 placement-of [] T h = absurd h

@@ -1,4 +1,4 @@
--- The finished plan: all that holds after each round holds of it, every task stands in it, and one finishes at its end.
+-- The finished schedule: all that holds after each round holds of it, every task stands in it, and one finishes at its end.
 use mathlib.Core.Path.{_≡_, refl, sym, ap, _∙_, subst}
 use mathlib.Core.Logic.{_⊎_, inl, inr}
 use mathlib.Core.Bool.{not}
@@ -125,9 +125,10 @@ module _ (I : Instance) (W : WellFormed I) where
   pub byTask-of : (u : Placement) → u ∈ byTask I (planned I) → u ∈ planned I
   unfolding byTask scheduleOf
   byTask-of u h =
-      let z = map-of (λ T. record { task = T; processor = placementOf (planned I) T .processor; start = placementOf (planned I) T .start }) (upto (tasks I)) u h in
-      let T = z .0 in
-      let s = home T (upto-of (tasks I) T (z .1)) in
-      let e : u ≡ placementOf (planned I) T =
-      z .2 ∙ ap (λ (x : ℕ). record { task = x; processor = placementOf (planned I) T .processor; start = placementOf (planned I) T .start }) (sym (s .1)) in
-      subst (λ v. v ∈ planned I) (sym e) (s .0)
+      let z = map-of (λ T. named T T) (upto (tasks I)) u h in
+      let s = home (z .0) (upto-of (tasks I) (z .0) (z .1)) in
+      subst (λ v. v ∈ planned I) (sym (z .2 ∙ ap (named (z .0)) (sym (s .1)))) (s .0)
+    where
+      -- the placement of task T, under another number
+      named : ℕ → ℕ → Placement
+      named T x = record { task = x; processor = placementOf (planned I) T .processor; start = placementOf (planned I) T .start }
