@@ -8,7 +8,7 @@ use Rattle.etf.specs.Schedule.{placementOf, messageTimeTo}
 use Rattle.etf.specs.Rule.{planned}
 use Rattle.etf.specs.Cover.{latestIdleTick, Walk, FinishesLast, back, walk, lastTask, cover}
 use Rattle.etf.specs.Laws.Back.{stopped, walk-is, walk-enough}
-use Rattle.etf.specs.Laws.Planned.{last-clock, sound-plan, whole, last-task}
+use Rattle.etf.specs.Laws.Planned.{last-task}
 
 module _ (I : Instance) (W : WellFormed I) where
   -- what the walk from task T adds, by the rule alone: nothing where it stops, else the message time of the move and what the walk from the predecessor adds
@@ -16,15 +16,15 @@ module _ (I : Instance) (W : WellFormed I) where
       → walk I (planned I) (tasks I) T
       ≡ elim (back I (planned I) T) [ none ↦ 0 | some b ↦ messageTimeTo I (planned I) (b .through) (b .edge) + walk I (planned I) (tasks I) (b .edge .from) ]
   unfolding walk
-  walk-rule T b = walk-enough I (planned I) (last-clock I W) (sound-plan I W) (whole I W) W (tasks I) (suc (tasks I)) T b (omega arith) b
+  walk-rule T b = walk-enough I W (tasks I) (suc (tasks I)) T b (omega arith) b
 
   -- any number of moves above T gives the same
   pub enough-moves : (k T : ℕ) → T < k → T < tasks I → walk I (planned I) k T ≡ walk I (planned I) (tasks I) T
-  enough-moves k T h b = walk-enough I (planned I) (last-clock I W) (sound-plan I W) (whole I W) W k (tasks I) T h b b
+  enough-moves k T h b = walk-enough I W k (tasks I) T h b b
 
   -- the walk stops only where no tick before the task's start is short
   pub stops-right : (T : ℕ) → T < tasks I → back I (planned I) T ≡ none → latestIdleTick I (planned I) (placementOf (planned I) T .start) ≡ none
-  stops-right T b e = stopped I (planned I) (last-clock I W) (sound-plan I W) (whole I W) W T b e
+  stops-right T b e = stopped I W T b e
 
 -- the walk whose sum is C: begun with the last task, it adds up to C with every number of moves that reaches its end, and is a walk of request §7
 pub record CoverWalk (I : Instance) : Type 0 where
@@ -39,7 +39,7 @@ unfolding cover
 cover-walk I W =
     let t = last-task I W in
     let b = t .2 .below in
-    let w = walk-is I (planned I) (last-clock I W) (sound-plan I W) (whole I W) W (tasks I) (t .0) b b in
+    let w = walk-is I W (tasks I) (t .0) b b in
     record {
       task = t .0;
       is-last = t .1;

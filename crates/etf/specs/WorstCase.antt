@@ -9,7 +9,6 @@ use Rattle.etf.specs.Dearest.{dearest}
 use Rattle.etf.specs.Ideal.{Ideal, makespan}
 use Rattle.etf.specs.Walks.{cover-walk}
 use Rattle.etf.specs.Laws.Walk.{walk-dearest}
-use Rattle.etf.specs.Laws.Planned.{last-clock, sound-plan, whole}
 use Rattle.etf.specs.Laws.Bound.{end-bound, own-ideal, own-makespan}
 
 -- 00, demand 3, on n processors: "n times E is at most (2n - 1) times F plus n times C", and "C is at most the dearest chain", D
@@ -20,7 +19,7 @@ pub record Within (n E F C D : ℕ) : Type 0 where
 module _ (I : Instance) (W : WellFormed I) where
   -- every walk's sum is at most the dearest chain
   pub walk-within : (T C : ℕ) → T < tasks I → Walk I (planned I) T C → C ≤ dearest I
-  walk-within = walk-dearest I (planned I) (last-clock I W) (sound-plan I W) (whole I W) W
+  walk-within = walk-dearest I W
 
   -- 02 §7: the comparison holds with every walk begun with any task that finishes last, for every ideal schedule
   pub any-walk-within : (T C : ℕ) → FinishesLast I (planned I) T → Walk I (planned I) T C

@@ -12,24 +12,29 @@ use lib.Dec.{T as Holds}
 use Rattle.job.specs.Job.{Edge}
 use Rattle.etf.specs.Lists.{_∈_, best}
 use Rattle.etf.specs.Instance.{Instance, WellFormed, tasks, into}
-use Rattle.etf.specs.Schedule.{Placement, placed, placementOf, messageTimeTo, reach, arrival}
+use Rattle.etf.specs.Schedule.{Placement, placementOf, messageTimeTo, reach, arrival}
+use Rattle.etf.specs.Rule.{planned}
 use Rattle.etf.specs.Cover.{Back, busy, idle, someIdle, latestIdleTick, MayGoBack, Walk, stops, goes, lowestIdle, later, latestInto, back, walk}
 use Rattle.etf.specs.Laws.Tests.{not-both, or-left, le-or-lt}
 use Rattle.etf.specs.Laws.Lists.{Order, Best, nothing, found, best-is, by-least, by-greatest-then-least}
-use Rattle.etf.specs.Laws.Placements.{placement-of, arrival-at}
-use Rattle.etf.specs.Laws.Sound.{Sound}
+use Rattle.etf.specs.Laws.Placements.{arrival-at}
 use Rattle.etf.specs.Laws.Idle.{idle-of, idle-in, LatestIdleTick, never, at, latest-idle-tick}
 use Rattle.etf.specs.Laws.Walk.{source}
+use Rattle.etf.specs.Laws.Planned.{sound-plan, home}
 
-module _ (I : Instance) (ps : List Placement) (cm : ℕ) (S : Sound I cm ps) (whole : (T : ℕ) → T < tasks I → Holds (placed ps T)) (W : WellFormed I) where
+module _ (I : Instance) (W : WellFormed I) where
+  -- the planner's schedule
+  abbrev ps : List Placement
+  ps = planned I
+
   -- a processor idle before a task's start: the task has a predecessor whose messages reach it later
   held-up : (T P t : ℕ) → T < tasks I → P < I .processors → Holds (not (busy I ps P t)) → t < placementOf ps T .start → t < arrival I ps T P
   held-up T P t b p i ts = go (le-or-lt (arrival I ps T P) t)
     where
       go : (arrival I ps T P ≤ t) ⊎ (t < arrival I ps T P) → t < arrival I ps T P
       go (inl k) =
-          let s = placement-of ps T (whole T b) in
-          absurd (not-both (busy I ps P t) i (S .full (placementOf ps T) (s .0) P t p (omega (arith, ap (λ x. arrival I ps x P) (s .1))) ts))
+          let s = home I W T b in
+          absurd (not-both (busy I ps P t) i (sound-plan I W .full (placementOf ps T) (s .0) P t p (omega (arith, ap (λ x. arrival I ps x P) (s .1))) ts))
       go (inr k) = k
 
   later-order : (P : ℕ) → Order (later I ps P)
@@ -96,7 +101,7 @@ module _ (I : Instance) (ps : List Placement) (cm : ℕ) (S : Sound I cm ps) (wh
           → Walk I ps T (elim o [ none ↦ 0 | some v ↦ messageTimeTo I ps (v .through) (v .edge) + walk I ps k (v .edge .from) ])
       go o (nowhere z) r = stops T z
       go o (along v s) r =
-          let f = source I ps cm S whole W T (v .edge) (s .is-into) in
+          let f = source I W T (v .edge) (s .is-into) in
           goes T v (walk I ps k (v .edge .from)) s (r (v .edge .from) (omega arith) (f .1))
 
   -- and any number of moves above T gives the same
@@ -111,5 +116,5 @@ module _ (I : Instance) (ps : List Placement) (cm : ℕ) (S : Sound I cm ps) (wh
           (elim o [ none ↦ 0 | some v ↦ messageTimeTo I ps (v .through) (v .edge) + walk I ps j (v .edge .from) ])
       go o (nowhere z) r = refl
       go o (along v s) r =
-          let f = source I ps cm S whole W T (v .edge) (s .is-into) in
+          let f = source I W T (v .edge) (s .is-into) in
           omega (arith, r (v .edge .from) (omega arith) (omega arith) (f .1))

@@ -18,7 +18,7 @@ use Rattle.etf.specs.Laws.Sums.{sum}
 use Rattle.etf.specs.Laws.Placements.{into-in, arrival-ge}
 use Rattle.etf.specs.Laws.Ticks.{idlers, ideal-work, our-work}
 use Rattle.etf.specs.Laws.Walk.{walk-bound}
-use Rattle.etf.specs.Laws.Planned.{apart-pairs, last-clock, sound-plan, whole, home, on-processor, by-end, last-task}
+use Rattle.etf.specs.Laws.Planned.{apart-pairs, last-clock, sound-plan, home, on-processor, by-end, last-task}
 
 -- work and idle ticks make up n E; f is when the ideal schedule finishes our last task
 add-up : (n q E F f C work idle : ℕ) → n ≡ suc q → n * E ≤ work + idle → work ≤ n * F → idle ≤ q * f + n * C → f ≤ F
@@ -44,7 +44,7 @@ module _ (I : Instance) (W : WellFormed I) where
       (ideal-work I R (makespan I R) (by-makespan R))
       (omega (
         arith,
-        walk-bound I (planned I) (last-clock I W) (sound-plan I W) (whole I W) W R q n T C b w,
+        walk-bound I W R q n T C b w,
         ap (λ x. sum x (idlers I (planned I))) e,
       ))
       (by-makespan R T b)

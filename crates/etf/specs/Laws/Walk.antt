@@ -1,31 +1,29 @@
--- Any walk: the idle ticks before a task's finish against an ideal schedule's finish of that task and the walk's sum, which a chain of edges bounds;
--- and that the walk of document 01 is one.
+-- Any walk over the planner's schedule: the idle ticks before a task's finish against an ideal schedule's finish of that task and the walk's sum,
+-- which a chain of edges bounds.
 use mathlib.Core.Path.{_≡_, ap}
 use mathlib.Core.List.{List}
 use Prim.Native.Nat.{ℕ, zero, suc, _+_, _*_, _≤_, _<_}
 use native.Mathlib.Omega.{arith}
 use native.Mathlib.Nat.{mul-le-mul-left}
-use lib.Dec.{T as Holds}
 use Rattle.job.specs.Job.{Edge}
 use Rattle.etf.specs.Lists.{_∈_, upto, greatest}
 use Rattle.etf.specs.Instance.{Instance, WellFormed, tasks, duration, into, messageTime}
-use Rattle.etf.specs.Schedule.{Placement, placed, placementOf, finish, messageTimeTo, reach}
+use Rattle.etf.specs.Schedule.{Placement, placementOf, finish, messageTimeTo, reach}
+use Rattle.etf.specs.Rule.{planned}
 use Rattle.etf.specs.Cover.{Walk, stops, goes}
 use Rattle.etf.specs.Dearest.{greatestCost, dearestTo, dearest}
 use Rattle.etf.specs.Ideal.{Ideal}
 use Rattle.etf.specs.Laws.Lists.{greatest-ge, upto-in}
 use Rattle.etf.specs.Laws.Sums.{sum-stretch, sum-grows}
-use Rattle.etf.specs.Laws.Placements.{placement-of, into-of}
-use Rattle.etf.specs.Laws.Sound.{Sound}
+use Rattle.etf.specs.Laws.Placements.{into-of}
 use Rattle.etf.specs.Laws.Ticks.{idlers}
 use Rattle.etf.specs.Laws.Idle.{idle-of, idle-before, idlers-most, idlers-less, idle-until, none-idle}
+use Rattle.etf.specs.Laws.Planned.{home, on-processor}
 
-module _ (I : Instance) (ps : List Placement) (cm : ℕ) (S : Sound I cm ps) (whole : (T : ℕ) → T < tasks I → Holds (placed ps T)) (W : WellFormed I) where
-  -- a placement of a task, and its processor
-  home : (T : ℕ) → T < tasks I → (placementOf ps T ∈ ps) × (placementOf ps T .task ≡ T) × (placementOf ps T .processor < I .processors)
-  home T b =
-      let s = placement-of ps T (whole T b) in
-      (s .0, s .1, S .in-range (placementOf ps T) (s .0) .1)
+module _ (I : Instance) (W : WellFormed I) where
+  -- the planner's schedule
+  abbrev ps : List Placement
+  ps = planned I
 
   -- a predecessor
   pub source : (T : ℕ) (e : Edge) → e ∈ into I T → (e .from < T) × (e .from < tasks I)
@@ -37,12 +35,12 @@ module _ (I : Instance) (ps : List Placement) (cm : ℕ) (S : Sound I cm ps) (wh
   own : (q : ℕ) → I .processors ≡ suc q → (T : ℕ) → T < tasks I
       → idle-before I ps (finish I (placementOf ps T)) ≤ idle-before I ps (placementOf ps T .start) + q * duration I T
   own q e T b =
-      let h = home T b in
+      let h = home I W T b in
       omega (
         arith,
         ap (λ x. q * duration I x) (h .1),
         sum-stretch (idlers I ps) (placementOf ps T .start) (duration I (placementOf ps T .task)) q
-            (λ t x y. omega (arith, e, idlers-less I ps (placementOf ps T) (h .0) (h .2) t x y)),
+            (λ t x y. omega (arith, e, idlers-less I ps (placementOf ps T) (h .0) (on-processor I W T b) t x y)),
       )
 
   pub walk-bound : (R : Ideal I) (q : ℕ) → I .processors ≡ suc q → (T C : ℕ) → T < tasks I → Walk I ps T C
@@ -71,7 +69,7 @@ module _ (I : Instance) (ps : List Placement) (cm : ℕ) (S : Sound I cm ps) (wh
       (omega (
         arith,
         greatest-ge (λ q. I .cost Q q) (upto (I .processors)) P (upto-in (I .processors) P p),
-        greatest-ge (λ x. greatest (λ q. I .cost x q) (upto (I .processors))) (upto (I .processors)) Q (upto-in (I .processors) Q (home (l .from) b .2)),
+        greatest-ge (λ x. greatest (λ q. I .cost x q) (upto (I .processors))) (upto (I .processors)) Q (upto-in (I .processors) Q (on-processor I W (l .from) b)),
       ))
 
   walk-chain : (k T C : ℕ) → T < k → T < tasks I → Walk I ps T C → C ≤ dearestTo I k T
