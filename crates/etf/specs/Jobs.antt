@@ -31,6 +31,7 @@ module _ (j : Job) (a : Accepted j) where
   abbrev I : Instance
   I = instance j
 
+  -- the instance is well formed
   pub well-formed : WellFormed I
   well-formed = of-job j a
 
