@@ -11,13 +11,13 @@ use Rattle.job.specs.Accepted.{Accepted}
 use Rattle.etf.specs.Lists.{_∈_}
 use Rattle.etf.specs.Instance.{Instance, WellFormed, tasks}
 use Rattle.etf.specs.Schedule.{Placement, finish, arrival, end, byTask}
-use Rattle.etf.specs.Rule.{planned}
+use Rattle.etf.specs.Rule.{begin, run, planned}
 use Rattle.etf.specs.Dearest.{dearest}
 use Rattle.etf.specs.Checker.{Keeps, check}
 use Rattle.etf.specs.Topology.{cost, square}
 use Rattle.etf.specs.OfJob.{instance}
 use Rattle.etf.specs.Laws.Costs.{cost-most, square-cost}
-use Rattle.etf.specs.Laws.Times.{finish-most, end-most, arrival-most}
+use Rattle.etf.specs.Laws.Times.{finish-after, finish-most, end-most, arrival-most}
 use Rattle.etf.specs.Laws.Checker.{keeps-yes, planned-keeps}
 use Rattle.etf.specs.Laws.Dearest.{dearest-free}
 use Rattle.etf.specs.Laws.OfJob.{of-job, few, short-tasks, near-processors, one-processor}
@@ -47,6 +47,10 @@ module _ (j : Job) (a : Accepted j) where
   -- 01: "no planned time passes 460,000,000": no start and no finish
   pub no-finish-passes : (u : Placement) → u ∈ planned I → finish I u ≤ 460000000
   no-finish-passes u h = omega (arith, finish-most I well-formed 1000000 800000 (short-tasks j a) (near-processors j a) u h, few j a)
+
+  -- after any number of rounds, too
+  pub no-finish-passes-after : (k : ℕ) (u : Placement) → u ∈ run I k begin .placements → finish I u ≤ 460000000
+  no-finish-passes-after k u h = omega (arith, finish-after I well-formed 1000000 800000 (short-tasks j a) (near-processors j a) k u h, few j a)
 
   -- nor the end
   pub no-end-passes : end I (planned I) ≤ 460000000

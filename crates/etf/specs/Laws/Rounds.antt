@@ -178,3 +178,11 @@ module _ (I : Instance) where
         let j = 2 * tasks I - 1 in
         let e : k ≡ j + (k - j) = omega arith in
         ap (λ (x : ℕ). run I x begin) e ∙ run-on j (k - j) begin ∙ run-rest (k - j) (run I j begin) (enough-rounds j (omega arith))
+
+    -- once no task remains, the plan is what stands
+    pub planned-by : (k : ℕ) → k ≤ 2 * tasks I → Holds (complete I (run I k begin .placements)) → planned I ≡ run I k begin .placements
+    unfolding planned
+    planned-by k h c =
+        let e : 2 * tasks I ≡ k + (2 * tasks I - k) = omega arith in
+        ap (λ (st : State). st .placements)
+        (ap (λ (x : ℕ). run I x begin) e ∙ run-on k (2 * tasks I - k) begin ∙ run-rest (2 * tasks I - k) (run I k begin) c)

@@ -14,7 +14,7 @@ use Rattle.etf.specs.Laws.Tests.{le-or-lt}
 use Rattle.etf.specs.Laws.Lists.{for-cons, in-nothing}
 use Rattle.etf.specs.Laws.Placements.{placement-of, into-of, arrival-at}
 use Rattle.etf.specs.Laws.Turn.{Put, Tick, Turn, rest, put, tick, stuck, turn}
-use Rattle.etf.specs.Laws.Sound.{Opened, Sound, same-arrival, sound-start, sound-round}
+use Rattle.etf.specs.Laws.Sound.{Opened, Sound, same-arrival, sound-start, sound-round, sound-run}
 use Rattle.etf.specs.Laws.Rounds.{left, left-start, left-put}
 use Rattle.etf.specs.Laws.Planned.{home, last-task}
 
@@ -101,16 +101,28 @@ module _ (I : Instance) (W : WellFormed I) (D B : ℕ)
   low-run zero st S L = L
   low-run (suc k) st S L = low-run k (round I st) (sound-round I W st S) (low-round st S L)
 
-  low-plan : Low (run I (2 * tasks I) begin .clock) (planned I)
-  unfolding planned
-  low-plan = low-run (2 * tasks I) begin (sound-start I) low-start
+  low-after : (k : ℕ) → Low (run I k begin .clock) (run I k begin .placements)
+  low-after k = low-run k begin (sound-start I) low-start
 
-  by-count : low-plan .count * (D + B) ≤ tasks I * (D + B)
-  by-count = mul-le-mul-right {m = low-plan .count} {n = tasks I} (D + B) (omega (arith, low-plan .counted))
+  by-count : (k : ℕ) → low-after k .count * (D + B) ≤ tasks I * (D + B)
+  by-count k = mul-le-mul-right {m = low-after k .count} {n = tasks I} (D + B) (omega (arith, low-after k .counted))
+
+  -- after k rounds: the clock, the finish of a placed task, the arrival of a task whose predecessors are placed
+  pub clock-after : (k : ℕ) → run I k begin .clock ≤ tasks I * (D + B)
+  clock-after k = omega (arith, low-after k .clock-by, by-count k)
+
+  pub finish-after : (k : ℕ) (u : Placement) → u ∈ run I k begin .placements → finish I u + B ≤ tasks I * (D + B)
+  finish-after k u h = omega (arith, low-after k .finish-by u h, by-count k)
+
+  pub arrival-after : (k T P : ℕ) → Opened I (run I k begin .placements) T → P < I .processors
+      → arrival I (run I k begin .placements) T P ≤ tasks I * (D + B)
+  arrival-after k T P o p =
+      arrival-by (run I k begin .placements) (tasks I * (D + B)) (sound-run I W k begin (sound-start I) .in-range) (finish-after k) T P o p
 
   -- the finish of a planned task: m durations and m - 1 message times
   pub finish-most : (u : Placement) → u ∈ planned I → finish I u + B ≤ tasks I * (D + B)
-  finish-most u h = omega (arith, low-plan .finish-by u h, by-count)
+  unfolding planned
+  finish-most = finish-after (2 * tasks I)
 
   -- the end
   pub end-most : end I (planned I) + B ≤ tasks I * (D + B)
@@ -119,6 +131,12 @@ module _ (I : Instance) (W : WellFormed I) (D B : ℕ)
 
   -- the arrival of a task at a processor: m - 1 durations and message times
   pub arrival-most : (T P : ℕ) → T < tasks I → P < I .processors → arrival I (planned I) T P + (D + B) ≤ tasks I * (D + B)
+  unfolding planned
   arrival-most T P h p =
       let s = home I W T h in
-      omega (arith, low-plan .arrive-by (placementOf (planned I) T) (s .0) P p, ap (λ x. arrival I (planned I) x P) (s .1), by-count)
+      omega (
+        arith,
+        low-after (2 * tasks I) .arrive-by (placementOf (planned I) T) (s .0) P p,
+        ap (λ x. arrival I (planned I) x P) (s .1),
+        by-count (2 * tasks I),
+      )
