@@ -1,0 +1,61 @@
+-- `clear`: after x turns the first x places are filled with 0, one place more each turn.
+use mathlib.Core.Path.{_≡_, sym, _∙_, ap}
+use mathlib.Core.List.{List}
+use Prim.Native.Nat.{ℕ, _+_, _-_, _≤_, _<_}
+use native.Mathlib.Omega.{arith}
+use borrow.Author.Needs.{needs}
+use lib.ListN.{length, set}
+use Rattle.schedule.specs.Plan.{filled}
+use Rattle.schedule.specs.Laws.Filled.{filled-none, filled-more}
+use Rattle.schedule.proofs.clear.Statement.{statement}
+use Rattle.schedule.proofs.clear.Tie as tie
+
+more : (old l : List ℕ) (x : ℕ) → l ≡ filled (λ i. 0) x old → x < length old → set l x 0 ≡ filled (λ i. 0) (x + 1) old
+more old l x e h = ap (λ (s : List ℕ). set s x 0) e ∙ filled-more (λ i. 0) x old h
+
+abbrev Inv-loop : tie.InvT-loop
+Inv-loop scratch₀ x₀ scratch x =
+    (x ≤ 4096) × (4096 ≤ length scratch₀) × (length scratch ≡ length scratch₀) × (scratch ≡ filled (λ i. 0) x scratch₀)
+
+abbrev μ-loop : tie.MeasureT-loop
+μ-loop scratch₀ x₀ scratch x = 4096 - x
+
+loop-holds : tie.Need-loop-holds Inv-loop μ-loop
+loop-holds c = (search needs, search needs, search needs, sym (filled-none (λ i. 0) _))
+
+mul-scratch : tie.Need-mul-scratch Inv-loop μ-loop
+mul-scratch c = search needs
+
+slice-write-scratch : tie.Need-slice-write-scratch Inv-loop μ-loop
+slice-write-scratch c = search needs
+
+add-x : tie.Need-add-x Inv-loop μ-loop
+add-x c = search needs
+
+loop-less : tie.Need-loop-less Inv-loop μ-loop
+loop-less c = search needs
+
+loop-again : tie.Need-loop-again Inv-loop μ-loop
+loop-again c =
+    (search needs, search needs, search needs, more _ _ _ (c .before .loop .inv .3) (search needs))
+
+same-length : tie.Need-same-length Inv-loop μ-loop
+same-length c = search needs
+
+returns : tie.Need-returns Inv-loop μ-loop
+returns c = let e : c .before .loop .x ≡ 4096 = omega arith in rw e at (c .before .loop .inv .3)
+
+pub clear-spec : {M : Type 1} → statement M
+clear-spec =
+    tie.close
+    (tie.spec
+    Inv-loop
+    μ-loop
+    loop-holds
+    mul-scratch
+    slice-write-scratch
+    add-x
+    loop-less
+    loop-again
+    same-length
+    returns)

@@ -1,0 +1,43 @@
+-- `costs::cost`: the unit cost times the hops, of which there are at most eight.
+use mathlib.Core.Path.{_≡_}
+use Prim.Native.Nat.{ℕ, _*_, _≤_}
+use borrow.Author.Needs.{needs}
+use borrow.Author.Tests.{eq-eqb, ne-eqb}
+use Rattle.job.specs.declared.Platform.{Platform}
+use Rattle.etf.specs.Topology.{hops, cost}
+use Rattle.etf.specs.Laws.Costs.{cost-most}
+use Rattle.schedule.proofs.costs.cost.Statement.{statement}
+use Rattle.schedule.proofs.costs.cost.Tie as tie
+
+module _ (r : Platform) (p q : ℕ) where
+  itself : p ≡ q → 0 ≡ cost r p q
+  unfolding cost
+  itself e = simp (eq-eqb _ _ e)
+
+  module _ (u h : ℕ) (a : p ≡ q → ⊥) (eu : u ≡ r .unit) (eh : h ≡ hops r p q) where
+    between : u * h ≡ cost r p q
+    unfolding cost
+    between = simp (ne-eqb _ _ a, eu, eh)
+
+    small : r .processors ≤ 16 → r .unit ≤ 100 → u * h ≤ 800
+    small n c = rw between (cost-most r p q n c)
+
+returns : tie.Need-returns
+returns c = itself _ _ _ (c .if1 .taken)
+
+wide8-requires : tie.Need-wide8-requires
+wide8-requires c κs = search needs
+
+hops-requires : tie.Need-hops-requires
+hops-requires c κs = search needs
+
+mul-result : tie.Need-mul-result
+mul-result c =
+    let h = small _ _ _ _ _ (c .before .before .if1 .left) (c .before .wide8 .ensures .0) (c .hops .ensures) (search needs) (search needs) in
+    search needs
+
+returns-2 : tie.Need-returns-2
+returns-2 c = between _ _ _ _ _ (c .before .before .if1 .left) (c .before .wide8 .ensures .0) (c .hops .ensures)
+
+pub cost-spec : {M : Type 1} → statement M
+cost-spec = tie.close (tie.spec returns wide8-requires hops-requires mul-result returns-2)

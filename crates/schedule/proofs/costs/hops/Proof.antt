@@ -1,0 +1,64 @@
+-- `costs::hops`: the platform's topology is 0, 1 or 2, and each has its rule.
+use mathlib.Core.Path.{_≡_, refl, ap, _∙_}
+use Prim.Native.Nat.{ℕ, zero, suc, _≤_}
+use native.Mathlib.Omega.{arith}
+use borrow.Author.Needs.{needs}
+use borrow.Author.Tests.{eq-eqb, ne-eqb}
+use Rattle.job.specs.declared.Platform.{Platform}
+use Rattle.etf.specs.Topology.{hypercubeHops, ringHops, hops}
+use Rattle.schedule.proofs.costs.hops.Statement.{statement}
+use Rattle.schedule.proofs.costs.hops.Tie as tie
+
+two : (t : ℕ) → t ≤ 2 → (t ≡ 0 → ⊥) → (t ≡ 1 → ⊥) → t ≡ 2
+two zero h a b = absurd (a refl)
+two (suc zero) h a b = absurd (b refl)
+two (suc (suc t)) h a b = omega arith
+
+module _ (r : Platform) (p q : ℕ) where
+  complete : r .topology ≡ 0 → 1 ≡ hops r p q
+  unfolding hops
+  complete e = simp (eq-eqb _ _ e)
+
+  hypercube : (r .topology ≡ 0 → ⊥) → r .topology ≡ 1 → hypercubeHops p q ≡ hops r p q
+  unfolding hops
+  hypercube a e = simp (ne-eqb _ _ a, eq-eqb _ _ e)
+
+  ring : (r .topology ≡ 0 → ⊥) → (r .topology ≡ 1 → ⊥) → r .topology ≤ 2 → ringHops (r .processors) p q ≡ hops r p q
+  unfolding hops
+  ring a b h = simp (ne-eqb _ _ a, ne-eqb _ _ b, eq-eqb _ _ (two _ h a b))
+
+returns : tie.Need-returns
+returns c = complete _ _ _ (c .if1 .taken)
+
+hops-requires : tie.Need-hops-requires
+hops-requires c κs = search needs
+
+wide8-requires : tie.Need-wide8-requires
+wide8-requires c κs = search needs
+
+returns-2 : tie.Need-returns-2
+returns-2 c = c .wide8 .ensures .0 ∙ c .before .hops .ensures ∙ hypercube _ _ _ (c .before .before .before .if1 .left) (c .before .before .if2 .taken)
+
+index-requires : tie.Need-index-requires
+index-requires c κs = search needs
+
+ring-hops-requires : tie.Need-ring-hops-requires
+ring-hops-requires c κs = search needs
+
+returns-3 : tie.Need-returns-3
+returns-3 c =
+    let args = c .before .before .before .before .args in
+    c .ring-hops .ensures ∙ ap (λ n. ringHops n (args .p) (args .q)) (c .before .index .ensures .0)
+    ∙ ring _ _ _ (c .before .before .before .if1 .left) (c .before .before .if2 .left) (search needs)
+
+pub hops-spec : {M : Type 1} → statement M
+hops-spec =
+    tie.close
+    (tie.spec
+    returns
+    hops-requires
+    wide8-requires
+    returns-2
+    index-requires
+    ring-hops-requires
+    returns-3)

@@ -1,0 +1,80 @@
+-- `encoding::put`: the tasks put so far are stores one after the other.
+use mathlib.Core.Path.{_≡_, refl, _∙_}
+use Prim.Native.Nat.{_*_, _-_, _≤_}
+use native.Mathlib.Omega.{arith}
+use borrow.Author.Needs.{needs}
+use lib.ListN.{length, getD}
+use lib.Seq.{sets}
+use Rattle.schedule.specs.PlanBytes.{planBytes}
+use Rattle.schedule.specs.Laws.Encoded.{put-none, put-more, put-all}
+use Rattle.schedule.proofs.encoding.put.Statement.{statement}
+use Rattle.schedule.proofs.encoding.put.Tie as tie
+
+abbrev Inv-loop : tie.InvT-loop
+Inv-loop tasks starts processors plan₀ t₀ plan t =
+    (t ≤ tasks) × (tasks ≤ length starts) × (tasks ≤ length processors) × (5 * tasks ≤ length plan₀) × (length plan ≡ length plan₀)
+    × (plan ≡ sets plan₀ 0 (planBytes t (λ T. getD processors T 0) (λ T. getD starts T 0)))
+
+abbrev μ-loop : tie.MeasureT-loop
+μ-loop tasks starts processors plan₀ t₀ plan t = tasks - t
+
+loop-holds : tie.Need-loop-holds Inv-loop μ-loop
+loop-holds c = (search needs, search needs, search needs, search needs, refl, put-none _ _ _)
+
+mul-put-task : tie.Need-mul-put-task Inv-loop μ-loop
+mul-put-task c = search needs
+
+shared-slice-read-put-task : tie.Need-shared-slice-read-put-task Inv-loop μ-loop
+shared-slice-read-put-task c = search needs
+
+mul-put-task-2 : tie.Need-mul-put-task-2 Inv-loop μ-loop
+mul-put-task-2 c = search needs
+
+shared-slice-read-put-task-2 : tie.Need-shared-slice-read-put-task-2 Inv-loop μ-loop
+shared-slice-read-put-task-2 c = search needs
+
+put-task-requires : tie.Need-put-task-requires Inv-loop μ-loop
+put-task-requires c κs = search needs
+
+add-t : tie.Need-add-t Inv-loop μ-loop
+add-t c = search needs
+
+loop-less : tie.Need-loop-less Inv-loop μ-loop
+loop-less c = search needs
+
+loop-again : tie.Need-loop-again Inv-loop μ-loop
+loop-again c =
+    let at-loop = c .before .before .before .before .before .before .before in (
+      search needs,
+      search needs,
+      search needs,
+      search needs,
+      c .before .before .put-task .kept .0 ∙ at-loop .loop .inv .4,
+      put-more _ _ _ _ _ _ (at-loop .loop .inv .5) (c .before .before .put-task .ensures),
+    )
+
+same-length : tie.Need-same-length Inv-loop μ-loop
+same-length c = search needs
+
+returns : tie.Need-returns Inv-loop μ-loop
+returns c =
+    let e : c .before .loop .t ≡ c .before .before .before .before .before .args .tasks = omega arith in
+    put-all _ _ _ _ _ _ e (search needs) (c .before .loop .inv .5)
+
+pub put-spec : {M : Type 1} → statement M
+put-spec =
+    tie.close
+    (tie.spec
+    Inv-loop
+    μ-loop
+    loop-holds
+    mul-put-task
+    shared-slice-read-put-task
+    mul-put-task-2
+    shared-slice-read-put-task-2
+    put-task-requires
+    add-t
+    loop-less
+    loop-again
+    same-length
+    returns)

@@ -1,0 +1,60 @@
+-- `planner::look` hands the free processors that the survey lists, each below n, on to the search.
+use Prim.Native.Nat.{ℕ, _≤_, _<_}
+use mathlib.Core.Path.{subst}
+use mathlib.Core.List.{List}
+use native.Mathlib.Omega.{arith}
+use borrow.Author.Needs.{needs}
+use lib.ListN.{getD}
+use Rattle.etf.specs.Lists.{_∈_, upto}
+use Rattle.etf.specs.Laws.Lists.{upto-of, filter-of}
+use Rattle.schedule.specs.declared.planner.Moment.{Moment}
+use Rattle.schedule.specs.Pass.{Surveyed, freeAmong}
+use Rattle.schedule.specs.Laws.Look.{value-in}
+use Rattle.schedule.proofs.planner.look.Statement.{statement}
+use Rattle.schedule.proofs.planner.look.Tie as tie
+
+free-below : (busy : List ℕ) (n clock : ℕ) (free : List ℕ) (r : Moment) → Surveyed busy n clock free r → n ≤ 16 → (i : ℕ) → i < r .free → getD free i 0 < 16
+unfolding freeAmong
+free-below busy n clock free r s h i k =
+    let a = subst (λ (fs : List ℕ). getD free i 0 ∈ fs) (s .listed) (value-in (λ x. getD free x 0) (r .free) i k) in
+    omega (arith, upto-of n (getD free i 0) (filter-of _ (upto n) (getD free i 0) a .0))
+
+slice-aggregate-survey : tie.Need-slice-aggregate-survey
+slice-aggregate-survey c = search needs
+
+survey-requires : tie.Need-survey-requires
+survey-requires c κs = search needs
+
+slice-aggregate-choose : tie.Need-slice-aggregate-choose
+slice-aggregate-choose c = search needs
+
+choose-requires : tie.Need-choose-requires
+choose-requires c κs =
+    let at-survey = c .before .before in
+    let pre = at-survey .before .before .before .before .before .before .pre in
+    let surveyed = at-survey .survey .ensures in (
+      (pre .0 .1, pre .0 .2, pre .0 .3, pre .1 .1, pre .1 .2, pre .1 .3),
+      (omega (arith, surveyed .few, pre .0 .0, at-survey .survey .kept .1 .1 .1 .0), free-below _ _ _ _ _ surveyed (pre .0 .0)),
+    )
+
+returns : tie.Need-returns
+returns c =
+    let at-survey = c .before .before .before in
+    let surveyed = at-survey .survey .ensures in
+    record {
+      free = _;
+      count = _;
+      next = surveyed .next;
+      listed = surveyed .listed;
+      found = c .choose .ensures;
+    }
+
+pub look-spec : {M : Type 1} → statement M
+look-spec =
+    tie.close
+    (tie.spec
+    slice-aggregate-survey
+    survey-requires
+    slice-aggregate-choose
+    choose-requires
+    returns)

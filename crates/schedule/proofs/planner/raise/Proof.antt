@@ -1,0 +1,148 @@
+-- `planner::raise`: before processor p the row is raised for the processors below p, and nothing else is changed; each turn adds one place.
+use mathlib.Core.Path.{_≡_, refl, ap, _∙_}
+use mathlib.Core.Logic.{_⊎_, inl, inr, ⊎-elim}
+use mathlib.Core.List.{List}
+use Prim.Native.Nat.{ℕ, _+_, _*_, _-_, _≤_, _<_, max}
+use native.Mathlib.Nat.{mul-le-mul}
+use native.Mathlib.Omega.{arith}
+use borrow.Author.Needs.{needs}
+use lib.ListN.{length, getD, set, length-set}
+use lib.Seq.{getD-set-same, getD-set-other}
+use Rattle.job.specs.Laws.Number.{lt-or-ge}
+use Rattle.schedule.specs.Pass.{Raised}
+use Rattle.schedule.proofs.planner.raise.Statement.{statement}
+use Rattle.schedule.proofs.planner.raise.Tie as tie
+
+-- a message count times a cost is at most 800,000
+small : (count cost : ℕ) → count ≤ 1000 → cost ≤ 800 → count * cost ≤ 800000
+small count cost h k = omega (arith, mul-le-mul h k)
+
+-- no processor's arrival is raised yet
+begun : (T finish count : ℕ) (row before : List ℕ) → Raised 0 T finish count row before before
+begun T finish count row before = record { in-row = λ P h. absurd (omega arith); left-of = λ x h. refl; right-of = λ x h. refl }
+
+module _ (p T finish count : ℕ) (row before now : List ℕ) (r : Raised p T finish count row before now) where
+  -- one place more, where nothing else is changed
+  one : (after : List ℕ) → getD after (16 * T + p) 0 ≡ max (getD now (16 * T + p) 0) (finish + count * getD row p 0)
+      → ((x : ℕ) → (x ≡ 16 * T + p → ⊥) → getD after x 0 ≡ getD now x 0) → Raised (p + 1) T finish count row before after
+  one after e same = record {
+    in-row = λ P h. go P (lt-or-ge P p) h;
+    left-of = λ x h. same x (λ k. omega arith) ∙ r .left-of x h;
+    right-of = λ x h. same x (λ k. omega arith) ∙ r .right-of x (omega arith);
+  }
+    where
+      go : (P : ℕ) → (P < p) ⊎ (p ≤ P) → P < p + 1 → getD after (16 * T + P) 0 ≡ max (getD before (16 * T + P) 0) (finish + count * getD row P 0)
+      go P (inl k) h = same (16 * T + P) (λ q. omega arith) ∙ r .in-row P k
+      go P (inr k) h = let q : P ≡ p = omega arith in rw (q, e, r .right-of (16 * T + p) (omega arith))
+
+  -- the arrival is stored, or was late enough
+  rises : (after : List ℕ) → getD now (16 * T + p) 0 < finish + count * getD row p 0
+      → after ≡ set now (16 * T + p) (finish + count * getD row p 0) → 16 * T + p < length now
+      → (length after ≡ length now) × Raised (p + 1) T finish count row before after
+  rises after h e l =
+      let at = getD-set-same now (16 * T + p) (finish + count * getD row p 0) 0 l in (
+        ap length e ∙ length-set now (16 * T + p) (finish + count * getD row p 0),
+        one after (rw e (at ∙ omega arith)) (λ x k. rw e (getD-set-other now (16 * T + p) x (finish + count * getD row p 0) 0 k)),
+      )
+
+  stays : (after : List ℕ) → finish + count * getD row p 0 ≤ getD now (16 * T + p) 0 → after ≡ now
+      → (length after ≡ length now) × Raised (p + 1) T finish count row before after
+  stays after h e = rw e (refl, one now (omega arith) (λ x k. refl))
+
+abbrev Inv-loop : tie.InvT-loop
+Inv-loop arrivals₀ task processors finish count row p₀ arrivals p =
+    (p ≤ processors) × (length arrivals ≡ length arrivals₀) × Raised p task finish count row arrivals₀ arrivals
+
+abbrev μ-loop : tie.MeasureT-loop
+μ-loop arrivals₀ task processors finish count row p₀ arrivals p = processors - p
+
+loop-holds : tie.Need-loop-holds Inv-loop μ-loop
+loop-holds c = (search needs, refl, begun _ _ _ _ _)
+
+mul-arrival : tie.Need-mul-arrival Inv-loop μ-loop
+mul-arrival c = search needs
+
+shared-slice-read-arrival : tie.Need-shared-slice-read-arrival Inv-loop μ-loop
+shared-slice-read-arrival c = search needs
+
+mul-arrival-2 : tie.Need-mul-arrival-2 Inv-loop μ-loop
+mul-arrival-2 c =
+    let pre = c .before .before .before .pre .1 in
+    record { fits = omega (arith, small _ _ (pre .1) (pre .2 (c .before .before .loop .p))) }
+
+add-arrival : tie.Need-add-arrival Inv-loop μ-loop
+add-arrival c =
+    let pre = c .before .before .before .pre .1 in
+    record { fits = omega (arith, pre .0, small _ _ (pre .1) (pre .2 (c .before .before .loop .p))) }
+
+mul-if1 : tie.Need-mul-if1 Inv-loop μ-loop
+mul-if1 c = search needs
+
+add-if1 : tie.Need-add-if1 Inv-loop μ-loop
+add-if1 c = search needs
+
+mul-if1-2 : tie.Need-mul-if1-2 Inv-loop μ-loop
+mul-if1-2 c = search needs
+
+slice-read-if1 : tie.Need-slice-read-if1 Inv-loop μ-loop
+slice-read-if1 c = search needs
+
+mul-arrivals : tie.Need-mul-arrivals Inv-loop μ-loop
+mul-arrivals c = search needs
+
+add-arrivals : tie.Need-add-arrivals Inv-loop μ-loop
+add-arrivals c = search needs
+
+mul-arrivals-2 : tie.Need-mul-arrivals-2 Inv-loop μ-loop
+mul-arrivals-2 c = search needs
+
+slice-write-arrivals : tie.Need-slice-write-arrivals Inv-loop μ-loop
+slice-write-arrivals c = search needs
+
+add-p : tie.Need-add-p Inv-loop μ-loop
+add-p c = search needs
+
+loop-less : tie.Need-loop-less Inv-loop μ-loop
+loop-less c = search needs
+
+loop-again : tie.Need-loop-again Inv-loop μ-loop
+loop-again c =
+    let v = c .before .before .before .before .loop .inv in
+    let r = ⊎-elim
+    (λ w. rises _ _ _ _ _ _ _ (v .2) _ (w .0 .taken) (w .1) (search needs))
+    (λ w. stays _ _ _ _ _ _ _ (v .2) _ (w .0 .left) (w .1))
+    (c .if1 .came) in
+    (search needs, r .0 ∙ v .1, r .1)
+
+same-length : tie.Need-same-length Inv-loop μ-loop
+same-length c = search needs
+
+returns : tie.Need-returns Inv-loop μ-loop
+returns c =
+    let e : c .before .loop .p ≡ c .before .before .args .processors = omega arith in
+    rw e at (c .before .loop .inv .2)
+
+pub raise-spec : {M : Type 1} → statement M
+raise-spec =
+    tie.close
+    (tie.spec
+    Inv-loop
+    μ-loop
+    loop-holds
+    mul-arrival
+    shared-slice-read-arrival
+    mul-arrival-2
+    add-arrival
+    mul-if1
+    add-if1
+    mul-if1-2
+    slice-read-if1
+    mul-arrivals
+    add-arrivals
+    mul-arrivals-2
+    slice-write-arrivals
+    add-p
+    loop-less
+    loop-again
+    same-length
+    returns)

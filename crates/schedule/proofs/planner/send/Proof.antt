@@ -1,0 +1,242 @@
+-- `planner::send`: before edge k what was sent is what the edges `first` to before k send; each turn adds one edge, which changes the task that it goes to alone.
+use mathlib.Core.Path.{_≡_, refl, ap, sym, _∙_}
+use mathlib.Core.Logic.{_⊎_, inl, inr, ⊎-elim}
+use mathlib.Core.List.{List}
+use Prim.Native.Nat.{ℕ, _+_, _*_, _-_, _≤_, _<_, max}
+use native.Mathlib.Omega.{arith}
+use borrow.Author.Needs.{needs}
+use lib.ListN.{length, getD, set, length-set}
+use lib.Seq.{getD-set-same, getD-set-other}
+use Rattle.job.specs.Number.{pick}
+use Rattle.etf.specs.Laws.Sums.{sum, one-if, sum-grows}
+use Rattle.schedule.specs.Pass.{most, sentTo, Raised, Sent}
+use Rattle.schedule.specs.Laws.Sending.{same-or-not, most-unsent, sum-unsent, most-sent, most-kept, sum-sent, sum-kept, unraised}
+use Rattle.schedule.proofs.planner.send.Statement.{statement}
+use Rattle.schedule.proofs.planner.send.Tie as tie
+
+-- the latest finish of task t raised
+record Later (t finish : ℕ) (before after : List ℕ) : Type 0 where
+  size : length after ≡ length before
+  here : getD after t 0 ≡ max (getD before t 0) finish
+  elsewhere : (T : ℕ) → (T ≡ t → ⊥) → getD after T 0 ≡ getD before T 0
+
+stored : (t finish : ℕ) (before after : List ℕ) → getD before t 0 < finish → after ≡ set before t finish → t < length before → Later t finish before after
+stored t finish before after h e l =
+    let at = getD-set-same before t finish 0 l in
+    record {
+      size = ap length e ∙ length-set before t finish;
+      here = rw e (at ∙ omega arith);
+      elsewhere = λ T d. rw e (getD-set-other before t T finish 0 d);
+    }
+
+kept : (t finish : ℕ) (before after : List ℕ) → finish ≤ getD before t 0 → after ≡ before → Later t finish before after
+kept t finish before after h e = record { size = ap length e; here = rw e (omega arith); elsewhere = λ T d. rw e }
+
+module _ (first finish n : ℕ) (row to counts : List ℕ) where
+  -- nothing is sent yet
+  begun : (arrivals waiting latest : List ℕ) → Sent first first finish n row to counts arrivals arrivals waiting waiting latest latest
+  begun arrivals waiting latest = record {
+    arrivals-at = λ T P h. omega (arith, most-unsent to first T (λ i. finish + getD counts i 0 * getD row P 0));
+    arrivals-spare = λ T P h k. refl;
+    waiting-at = λ T. omega (arith, sum-unsent to first T);
+    latest-at = λ T. omega (arith, most-unsent to first T (λ i. finish));
+  }
+
+  -- the turn of edge k, which goes to task t
+  module _ (k t : ℕ) (e : t ≡ getD to k 0) (h : first ≤ k) where
+    -- the arrivals
+    module _ (arrivals now after : List ℕ) (r : Raised n t finish (getD counts k 0) row now after) (few : n ≤ 16) where
+      arrive : (T P : ℕ) → P < n
+          → getD now (16 * T + P) 0 ≡ max (getD arrivals (16 * T + P) 0) (most k (λ i. pick (sentTo to first T i) (finish + getD counts i 0 * getD row P 0) 0))
+          → getD after (16 * T + P) 0 ≡ max (getD arrivals (16 * T + P) 0) (most (k + 1) (λ i. pick (sentTo to first T i) (finish + getD counts i 0 * getD row P 0) 0))
+      arrive T P p s = go (same-or-not t T)
+        where
+          go : (t ≡ T) ⊎ (t ≡ T → ⊥)
+              → getD after (16 * T + P) 0 ≡ max (getD arrivals (16 * T + P) 0) (most (k + 1) (λ i. pick (sentTo to first T i) (finish + getD counts i 0 * getD row P 0) 0))
+          go (inl q) =
+              omega (arith, s, rw q at (r .in-row P p), most-sent to first T k h (λ i. finish + getD counts i 0 * getD row P 0) (sym e ∙ q))
+          go (inr q) =
+              let u = unraised n t finish (getD counts k 0) row now after r few T P (omega arith) q in
+              omega (arith, s, u, most-kept to first T k (λ i. finish + getD counts i 0 * getD row P 0) (λ z. q (e ∙ z)))
+
+      spare : (T P : ℕ) → n ≤ P → P < 16 → getD now (16 * T + P) 0 ≡ getD arrivals (16 * T + P) 0 → getD after (16 * T + P) 0 ≡ getD arrivals (16 * T + P) 0
+      spare T P p l s = go (same-or-not t T)
+        where
+          go : (t ≡ T) ⊎ (t ≡ T → ⊥) → getD after (16 * T + P) 0 ≡ getD arrivals (16 * T + P) 0
+          go (inl q) = r .right-of (16 * T + P) (omega arith) ∙ s
+          go (inr q) = unraised n t finish (getD counts k 0) row now after r few T P l q ∙ s
+
+    -- the waiting counts: the task waits still, where no task is sent more than it waits for
+    waits : (last : ℕ) (arrivals arrivals₁ waiting waiting₁ latest latest₁ : List ℕ) → Sent first k finish n row to counts arrivals arrivals₁ waiting waiting₁ latest latest₁
+        → ((T : ℕ) → sum last (λ i. one-if (sentTo to first T i)) ≤ getD waiting T 0) → k < last → 1 ≤ getD waiting₁ t 0
+    waits last arrivals arrivals₁ waiting waiting₁ latest latest₁ s m l =
+        omega (arith, m t, s .waiting-at t, sum-sent to first t k h (sym e), sum-grows (λ i. one-if (sentTo to first t i)) (k + 1) last (omega arith))
+
+    wait : (waiting now : List ℕ) → t < length now → 1 ≤ getD now t 0 → (T : ℕ) → getD now T 0 + sum k (λ i. one-if (sentTo to first T i)) ≡ getD waiting T 0
+        → getD (set now t (getD now t 0 - 1)) T 0 + sum (k + 1) (λ i. one-if (sentTo to first T i)) ≡ getD waiting T 0
+    wait waiting now l w T s = go (same-or-not t T)
+      where
+        go : (t ≡ T) ⊎ (t ≡ T → ⊥) → getD (set now t (getD now t 0 - 1)) T 0 + sum (k + 1) (λ i. one-if (sentTo to first T i)) ≡ getD waiting T 0
+        go (inl q) =
+            let less = getD-set-same now t (getD now t 0 - 1) 0 l in
+            rw (← q) (omega (arith, less, rw (← q) at s, sum-sent to first t k h (sym e)))
+        go (inr q) =
+            omega (arith, s, getD-set-other now t T (getD now t 0 - 1) 0 (λ z. q (sym z)), sum-kept to first T k (λ z. q (e ∙ z)))
+
+    -- the latest finishes
+    late : (latest now after : List ℕ) → getD after t 0 ≡ max (getD now t 0) finish → ((T : ℕ) → (T ≡ t → ⊥) → getD after T 0 ≡ getD now T 0)
+        → (T : ℕ) → getD now T 0 ≡ max (getD latest T 0) (most k (λ i. pick (sentTo to first T i) finish 0))
+        → getD after T 0 ≡ max (getD latest T 0) (most (k + 1) (λ i. pick (sentTo to first T i) finish 0))
+    late latest now after w same T s = go (same-or-not t T)
+      where
+        go : (t ≡ T) ⊎ (t ≡ T → ⊥) → getD after T 0 ≡ max (getD latest T 0) (most (k + 1) (λ i. pick (sentTo to first T i) finish 0))
+        go (inl q) = omega (arith, s, rw q at w, most-sent to first T k h (λ i. finish) (sym e ∙ q))
+        go (inr q) = omega (arith, s, same T (λ z. q (sym z)), most-kept to first T k (λ i. finish) (λ z. q (e ∙ z)))
+
+    -- all three
+    turn : (count : ℕ) (arrivals arrivals₁ arrivals₂ waiting waiting₁ latest latest₁ latest₂ : List ℕ) → count ≡ getD counts k 0
+        → Sent first k finish n row to counts arrivals arrivals₁ waiting waiting₁ latest latest₁ → Raised n t finish count row arrivals₁ arrivals₂ → Later t finish latest₁ latest₂
+        → n ≤ 16 → t < length waiting₁ → 1 ≤ getD waiting₁ t 0
+        → Sent first (k + 1) finish n row to counts arrivals arrivals₂ waiting (set waiting₁ t (getD waiting₁ t 0 - 1)) latest latest₂
+    turn count arrivals arrivals₁ arrivals₂ waiting waiting₁ latest latest₁ latest₂ d s r m few l w = record {
+      arrivals-at = λ T P p. arrive arrivals arrivals₁ arrivals₂ (rw d at r) few T P p (s .arrivals-at T P p);
+      arrivals-spare = λ T P p q. spare arrivals arrivals₁ arrivals₂ (rw d at r) few T P p q (s .arrivals-spare T P p q);
+      waiting-at = λ T. wait waiting waiting₁ l w T (s .waiting-at T);
+      latest-at = λ T. late latest latest₁ latest₂ (m .here) (m .elsewhere) T (s .latest-at T);
+    }
+
+abbrev Inv-loop : tie.InvT-loop
+Inv-loop first last finish processors row to counts arrivals₀ waiting₀ latest₀ k₀ arrivals waiting latest k =
+    (first ≤ k) × (k ≤ last) × (length arrivals ≡ length arrivals₀) × (length waiting ≡ length waiting₀) × (length latest ≡ length latest₀)
+    × Sent first k finish processors row to counts arrivals₀ arrivals waiting₀ waiting latest₀ latest
+
+abbrev μ-loop : tie.MeasureT-loop
+μ-loop first last finish processors row to counts arrivals₀ waiting₀ latest₀ k₀ arrivals waiting latest k = last - k
+
+loop-holds : tie.Need-loop-holds Inv-loop μ-loop
+loop-holds c = (search needs, search needs, refl, refl, refl, begun _ _ _ _ _ _ _ _ _)
+
+shared-slice-read-index : tie.Need-shared-slice-read-index Inv-loop μ-loop
+shared-slice-read-index c = search needs
+
+index-requires : tie.Need-index-requires Inv-loop μ-loop
+index-requires c κs = search needs
+
+mul-wide16 : tie.Need-mul-wide16 Inv-loop μ-loop
+mul-wide16 c = search needs
+
+shared-slice-read-wide16 : tie.Need-shared-slice-read-wide16 Inv-loop μ-loop
+shared-slice-read-wide16 c = search needs
+
+wide16-requires : tie.Need-wide16-requires Inv-loop μ-loop
+wide16-requires c κs = search needs
+
+raise-requires : tie.Need-raise-requires Inv-loop μ-loop
+raise-requires c κs =
+    let at-loop = c .before .before .before .before .before .before in
+    let pre = at-loop .before .before .before .before .before .before .before .pre in
+    let few : c .wide16 .result ≤ 1000 = omega (arith, c .wide16 .ensures, pre .1 .1 .0 .1 (at-loop .loop .k) (search needs)) in
+    ((search needs, search needs, search needs, search needs), (search needs, few, pre .1 .1 .0 .0))
+
+mul-if1 : tie.Need-mul-if1 Inv-loop μ-loop
+mul-if1 c = search needs
+
+slice-read-if1 : tie.Need-slice-read-if1 Inv-loop μ-loop
+slice-read-if1 c = search needs
+
+mul-latest : tie.Need-mul-latest Inv-loop μ-loop
+mul-latest c = search needs
+
+slice-write-latest : tie.Need-slice-write-latest Inv-loop μ-loop
+slice-write-latest c = search needs
+
+mul-waiting : tie.Need-mul-waiting Inv-loop μ-loop
+mul-waiting c = search needs
+
+slice-read-waiting : tie.Need-slice-read-waiting Inv-loop μ-loop
+slice-read-waiting c = search needs
+
+sub-waiting : tie.Need-sub-waiting Inv-loop μ-loop
+sub-waiting c =
+    let at-index = c .before .before .before .before .before .before .before .before .before in
+    let at-loop = at-index .before .before .before in
+    let v = at-loop .loop .inv in
+    let pre = at-loop .before .before .before .before .before .before .before .pre in
+    waits _ _ _ _ _ _ _ _ (at-index .index .ensures .0) (v .0) _ _ _ _ _ _ _ (v .5) (pre .1 .1 .1) (search needs)
+
+mul-waiting-2 : tie.Need-mul-waiting-2 Inv-loop μ-loop
+mul-waiting-2 c = search needs
+
+slice-write-waiting : tie.Need-slice-write-waiting Inv-loop μ-loop
+slice-write-waiting c = search needs
+
+add-k : tie.Need-add-k Inv-loop μ-loop
+add-k c = search needs
+
+loop-less : tie.Need-loop-less Inv-loop μ-loop
+loop-less c = search needs
+
+loop-again : tie.Need-loop-again Inv-loop μ-loop
+loop-again c =
+    let at-raise = c .before .before .before .before .before in
+    let at-index = at-raise .before .before .before .before in
+    let at-loop = at-index .before .before .before in
+    let pre = at-loop .before .before .before .before .before .before .before .pre in
+    let t = at-index .index .ensures in
+    let v = at-loop .loop .inv in
+    let m = ⊎-elim
+    (λ w. stored _ _ _ _ (w .0 .taken) (w .1) (omega (arith, t .1, v .4, pre .1 .0 .2)))
+    (λ w. kept _ _ _ _ (w .0 .left) (w .1))
+    (c .before .if1 .came) in (
+      search needs,
+      search needs,
+      at-raise .raise .kept .0 ∙ v .2,
+      search needs,
+      m .size ∙ v .4,
+      turn _ _ _ _ _ _ _ _ (t .0) (v .0) _ _ _ _ _ _ _ _ _ (at-raise .before .wide16 .ensures) (v .5) (at-raise .raise .ensures) m
+          (pre .0 .3) (omega (arith, t .1, v .3, pre .1 .0 .1)) (sub-waiting c),
+    )
+
+same-length : tie.Need-same-length Inv-loop μ-loop
+same-length c = search needs
+
+same-length-2 : tie.Need-same-length-2 Inv-loop μ-loop
+same-length-2 c = search needs
+
+same-length-3 : tie.Need-same-length-3 Inv-loop μ-loop
+same-length-3 c = search needs
+
+returns : tie.Need-returns Inv-loop μ-loop
+returns c =
+    let e : c .before .loop .k ≡ c .before .before .before .before .before .before .before .before .args .last = omega arith in
+    rw e at (c .before .loop .inv .5)
+
+pub send-spec : {M : Type 1} → statement M
+send-spec =
+    tie.close
+    (tie.spec
+    Inv-loop
+    μ-loop
+    loop-holds
+    shared-slice-read-index
+    index-requires
+    mul-wide16
+    shared-slice-read-wide16
+    wide16-requires
+    raise-requires
+    mul-if1
+    slice-read-if1
+    mul-latest
+    slice-write-latest
+    mul-waiting
+    slice-read-waiting
+    sub-waiting
+    mul-waiting-2
+    slice-write-waiting
+    add-k
+    loop-less
+    loop-again
+    same-length
+    same-length-2
+    same-length-3
+    returns)

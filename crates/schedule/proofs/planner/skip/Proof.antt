@@ -1,0 +1,81 @@
+-- `planner::skip`: every task passed so far is marked as placed.
+use mathlib.Core.Path.{_≡_}
+use mathlib.Core.Logic.{_⊎_, inl, inr}
+use mathlib.Core.List.{List}
+use Prim.Native.Nat.{ℕ, _+_, _-_, _≤_, _<_}
+use native.Mathlib.Omega.{arith}
+use borrow.Author.Needs.{needs}
+use lib.ListN.{length, getD}
+use Rattle.etf.specs.Laws.Tests.{le-or-lt}
+use Rattle.schedule.specs.Pass.{Skipped, placedMark}
+use Rattle.schedule.proofs.planner.skip.Statement.{statement}
+use Rattle.schedule.proofs.planner.skip.Tie as tie
+
+-- the tasks from `low` to before t are marked as placed
+Marked : List ℕ → ℕ → ℕ → Type 0
+Marked waiting low t = (T : ℕ) → low ≤ T → T < t → getD waiting T 0 ≡ placedMark
+
+module _ (waiting : List ℕ) (low t : ℕ) (M : Marked waiting low t) where
+  pass : getD waiting t 0 ≡ placedMark → Marked waiting low (t + 1)
+  unfolding Marked
+  pass e T p q = go (le-or-lt t T)
+    where
+      go : (t ≤ T) ⊎ (T < t) → getD waiting T 0 ≡ placedMark
+      go (inl r) = let d : T ≡ t = omega arith in rw d e
+      go (inr r) = M T p r
+
+  stop : (m : ℕ) → low ≤ t → t < m → (getD waiting t 0 ≡ placedMark → ⊥) → Skipped waiting low m t
+  unfolding Marked
+  stop m a b n = record { from-low = a; to-most = omega arith; marked = M; unmarked = λ _. n }
+
+  none : (m : ℕ) → low ≤ t → t ≤ m → m ≤ t → Skipped waiting low m m
+  unfolding Marked
+  none m a b h =
+      let e : t ≡ m = omega arith in
+      record { from-low = omega arith; to-most = omega arith; marked = λ T p q. M T p (omega arith); unmarked = λ z. absurd (omega arith) }
+
+abbrev Inv-loop : tie.InvT-loop
+Inv-loop waiting low tasks t₀ t = (low ≤ t) × (t ≤ tasks) × (tasks ≤ length waiting) × Marked waiting low t
+
+abbrev μ-loop : tie.MeasureT-loop
+μ-loop waiting low tasks t₀ t = tasks - t
+
+loop-holds : tie.Need-loop-holds Inv-loop μ-loop
+unfolding Marked
+loop-holds c = (search needs, search needs, search needs, λ T p q. absurd (omega arith))
+
+mul-if1 : tie.Need-mul-if1 Inv-loop μ-loop
+mul-if1 c = search needs
+
+shared-slice-read-if1 : tie.Need-shared-slice-read-if1 Inv-loop μ-loop
+shared-slice-read-if1 c = search needs
+
+returns : tie.Need-returns Inv-loop μ-loop
+returns c = stop _ _ _ (c .before .before .before .loop .inv .3) _ (search needs) (search needs) (c .if1 .taken)
+
+add-t : tie.Need-add-t Inv-loop μ-loop
+add-t c = search needs
+
+loop-less : tie.Need-loop-less Inv-loop μ-loop
+loop-less c = search needs
+
+loop-again : tie.Need-loop-again Inv-loop μ-loop
+loop-again c = (search needs, search needs, search needs, pass _ _ _ (c .before .before .before .loop .inv .3) (c .if1 .left))
+
+returns-2 : tie.Need-returns-2 Inv-loop μ-loop
+returns-2 c = none _ _ _ (c .before .loop .inv .3) _ (search needs) (search needs) (search needs)
+
+pub skip-spec : {M : Type 1} → statement M
+skip-spec =
+    tie.close
+    (tie.spec
+    Inv-loop
+    μ-loop
+    loop-holds
+    mul-if1
+    shared-slice-read-if1
+    returns
+    add-t
+    loop-less
+    loop-again
+    returns-2)

@@ -1,0 +1,16 @@
+pub mod Most
+pub mod Encoded
+pub mod Filled
+pub mod Tried
+pub mod Sending
+pub mod Progress
+pub mod Given
+pub mod Look
+pub mod Search
+pub mod Turned
+pub mod Placed
+pub mod Finished
+pub mod Going
+pub mod Checked
+pub mod Reading
+pub mod Entries

@@ -1,0 +1,100 @@
+-- A plan's bytes against the two arrays that hold it, by stores that follow on each other and by place; of both, only the tasks' places count.
+use mathlib.Core.Path.{_≡_, refl, ap, sym, _∙_}
+use mathlib.Core.Logic.{_⊎_, inl, inr}
+use mathlib.Core.List.{List, [], _∷_, _++_, map, flatMap}
+use Prim.Native.Nat.{ℕ, zero, suc, _+_, _*_, _≤_, _<_}
+use native.Mathlib.Nat.{zero-add}
+use native.Mathlib.Omega.{arith}
+use lib.ListN.{length, getD, take, drop, set}
+use lib.Seq.{sets, getD-set-same, getD-set-other}
+use Rattle.job.specs.Number.{number}
+use Rattle.job.specs.Write.{values}
+use Rattle.job.specs.Laws.Number.{length-bytes}
+use Rattle.job.specs.Laws.Values.{values-snoc}
+use Rattle.job.specs.Laws.Stored.{sets-front, flat-size, store-more}
+use Rattle.etf.specs.Lists.{_∈_, here, there, upto}
+use Rattle.etf.specs.Instance.{Instance, tasks}
+use Rattle.etf.specs.Schedule.{scheduleOf}
+use Rattle.etf.specs.Checker.{check}
+use Rattle.etf.specs.Laws.Lists.{upto-of, length-upto}
+use Rattle.etf.specs.Laws.Tests.{le-or-lt}
+use Rattle.schedule.specs.Check.{judged}
+use Rattle.schedule.specs.PlanBytes.{taskBytes, planBytes, processorIn, startIn}
+
+-- 0, 1, .. are the values of the row of numbers
+upto-values : (m : ℕ) → upto m ≡ values (λ i. i) 0 m
+unfolding upto values
+upto-values zero = refl
+upto-values (suc m) = ap (λ (l : List ℕ). l ++ (m ∷ [])) (upto-values m) ∙ sym (values-snoc (λ i. i) 0 m ∙ rw (zero-add m))
+
+-- ---- put
+
+-- a task has five bytes
+task-size : (processor start : ℕ) → length (taskBytes processor start) ≡ 5
+unfolding taskBytes
+task-size processor start = ap suc (length-bytes 4 start)
+
+module _ (processor start : ℕ → ℕ) where
+  -- and m tasks five times as many
+  size : (m : ℕ) → length (planBytes m processor start) ≡ 5 * m
+  unfolding planBytes
+  size m = flat-size (λ T. taskBytes (processor T) (start T)) (λ T. task-size (processor T) (start T)) (upto m) ∙ ap (λ (n : ℕ). 5 * n) (length-upto m)
+
+  -- no task yet
+  pub put-none : (plan : List ℕ) → plan ≡ sets plan 0 (planBytes 0 processor start)
+  unfolding planBytes upto flatMap
+  put-none plan = refl
+
+  -- one task more
+  pub put-more : (plan plan′ plan″ : List ℕ) (t : ℕ) → plan′ ≡ sets plan 0 (planBytes t processor start) → plan″ ≡ sets plan′ (5 * t) (taskBytes (processor t) (start t)) →
+      plan″ ≡ sets plan 0 (planBytes (t + 1) processor start)
+  unfolding planBytes
+  put-more plan plan′ plan″ t e h =
+      rw (upto-values (t + 1))
+      (store-more (λ T. taskBytes (processor T) (start T)) (λ T. task-size (processor T) (start T)) (λ i. i) plan plan′ plan″ 0 t
+      (rw (upto-values t) at e) (rw (zero-add (5 * t)) h))
+
+  -- all of them
+  pub put-all : (plan plan′ : List ℕ) (t m : ℕ) → t ≡ m → 5 * m ≤ length plan → plan′ ≡ sets plan 0 (planBytes t processor start) →
+      plan′ ≡ planBytes m processor start ++ drop (5 * m) plan
+  put-all plan plan′ t m e h p = p ∙ rw e (sets-front plan (planBytes m processor start) (5 * m) (size m) h)
+
+-- ---- get
+
+-- the arrays hold the first t tasks of a plan's bytes
+unfoldable pub Got : List ℕ → List ℕ → List ℕ → ℕ → Type 0
+Got plan starts processors t = (T : ℕ) → T < t → (getD starts T 0 ≡ startIn plan T) × (getD processors T 0 ≡ processorIn plan T)
+
+-- one task more, stored at its place in each array
+pub got-more : (plan starts processors : List ℕ) (t s : ℕ) → Got plan starts processors t → t < length starts → t < length processors → s ≡ number (take 4 (drop (5 * t + 1) plan)) →
+    Got plan (set starts t s) (set processors t (getD plan (5 * t) 0)) (t + 1)
+unfolding Got processorIn startIn
+got-more plan starts processors t s g hs hp e T h = go (le-or-lt (suc T) t)
+  where
+    go : (suc T ≤ t) ⊎ (t < suc T) → (getD (set starts t s) T 0 ≡ startIn plan T) × (getD (set processors t (getD plan (5 * t) 0)) T 0 ≡ processorIn plan T)
+    go (inl k) =
+        (getD-set-other starts t T s 0 (λ q. omega arith) ∙ g T k .0, getD-set-other processors t T (getD plan (5 * t) 0) 0 (λ q. omega arith) ∙ g T k .1)
+    go (inr k) =
+        let q : T ≡ t = omega arith in
+        rw q (getD-set-same starts t s 0 hs ∙ e, getD-set-same processors t (getD plan (5 * t) 0) 0 hp)
+
+-- ---- only the tasks' places count
+
+flat-same : {A B : Type 0} (f g : A → List B) (l : List A) → ((a : A) → a ∈ l → f a ≡ g a) → flatMap f l ≡ flatMap g l
+unfolding flatMap
+flat-same f g [] e = refl
+flat-same f g (x ∷ xs) e = cc (e x (here refl), flat-same f g xs (λ a h. e a (there h)))
+
+map-same : {A B : Type 0} (f g : A → B) (l : List A) → ((a : A) → a ∈ l → f a ≡ g a) → map f l ≡ map g l
+map-same f g [] e = refl
+map-same f g (x ∷ xs) e = cc (e x (here refl), map-same f g xs (λ a h. e a (there h)))
+
+-- plans that are the same on the first m tasks have the same bytes
+pub plan-bytes-same : (m : ℕ) (p q s t : ℕ → ℕ) → ((T : ℕ) → T < m → p T ≡ q T) → ((T : ℕ) → T < m → s T ≡ t T) → planBytes m p s ≡ planBytes m q t
+unfolding planBytes
+plan-bytes-same m p q s t e h = flat-same _ _ (upto m) (λ T k. rw (e T (upto-of m T k), h T (upto-of m T k)))
+
+-- and the checker says the same of them
+pub judged-same : (I : Instance) (p q s t : ℕ → ℕ) → ((T : ℕ) → T < tasks I → p T ≡ q T) → ((T : ℕ) → T < tasks I → s T ≡ t T) → judged I p s ≡ judged I q t
+unfolding judged scheduleOf
+judged-same I p q s t e h = ap (check I) (map-same _ _ (upto (tasks I)) (λ T k. rw (e T (upto-of (tasks I) T k), h T (upto-of (tasks I) T k))))

@@ -1,0 +1,55 @@
+-- The greatest and the sum of a row of numbers: by place, up to a place, of two rows. By induction on their number.
+use mathlib.Core.Path.{_≡_, refl, _∙_}
+use mathlib.Core.Logic.{_⊎_, inl, inr}
+use Prim.Native.Nat.{ℕ, zero, suc, _+_, _≤_, _<_, max}
+use native.Mathlib.Omega.{arith}
+use Rattle.etf.specs.Laws.Sums.{sum}
+use Rattle.etf.specs.Laws.Tests.{le-or-lt}
+use Rattle.schedule.specs.Pass.{most}
+
+pub most-ge : (n : ℕ) (f : ℕ → ℕ) (i : ℕ) → i < n → f i ≤ most n f
+unfolding most
+most-ge zero f i h = absurd (omega arith)
+most-ge (suc n) f i h = go (le-or-lt (suc i) n) (λ k. most-ge n f i k)
+  where
+    go : (suc i ≤ n) ⊎ (n < suc i) → (i < n → f i ≤ most n f) → f i ≤ max (most n f) (f n)
+    go (inl k) r = omega (arith, r k)
+    go (inr k) r = let e : i ≡ n = omega arith in rw e (omega arith)
+
+pub most-at : (n : ℕ) (f : ℕ → ℕ) (t : ℕ) → t < most n f → (i : ℕ) × (i < n) × (t < f i)
+unfolding most
+most-at zero f t h = absurd (omega arith)
+most-at (suc n) f t h = go (le-or-lt (suc t) (f n)) (λ k. most-at n f t k)
+  where
+    go : (suc t ≤ f n) ⊎ (f n < suc t) → (t < most n f → (i : ℕ) × (i < n) × (t < f i)) → (i : ℕ) × (i < suc n) × (t < f i)
+    go (inl k) r = (n, omega arith, k)
+    go (inr k) r = let z = r (omega arith) in (z .0, omega (arith, z .1), z .2)
+
+pub most-same : (n : ℕ) (f g : ℕ → ℕ) → ((i : ℕ) → i < n → f i ≡ g i) → most n f ≡ most n g
+unfolding most
+most-same zero f g h = refl
+most-same (suc n) f g h = omega (arith, h n (omega arith), most-same n f g (λ i k. h i (omega arith)))
+
+pub most-max : (n : ℕ) (f g : ℕ → ℕ) → most n (λ i. max (f i) (g i)) ≡ max (most n f) (most n g)
+unfolding most
+most-max zero f g = refl
+most-max (suc n) f g = omega (arith, most-max n f g)
+
+-- 0 from place a on
+pub most-cut : (n a : ℕ) (f : ℕ → ℕ) → a ≤ n → ((i : ℕ) → a ≤ i → i < n → f i ≡ 0) → most n f ≡ most a f
+unfolding most
+most-cut zero a f h z = let e : a ≡ 0 = omega arith in rw e
+most-cut (suc n) a f h z = go (le-or-lt a n) (λ k. most-cut n a f k (λ i p q. z i p (omega arith)))
+  where
+    go : (a ≤ n) ⊎ (n < a) → (a ≤ n → most n f ≡ most a f) → max (most n f) (f n) ≡ most a f
+    go (inl k) r = omega (arith, r k, z n k (omega arith))
+    go (inr k) r = let e : a ≡ suc n = omega arith in rw e
+
+pub sum-cut : (n a : ℕ) (f : ℕ → ℕ) → a ≤ n → ((i : ℕ) → a ≤ i → i < n → f i ≡ 0) → sum n f ≡ sum a f
+unfolding sum
+sum-cut zero a f h z = let e : a ≡ 0 = omega arith in rw e
+sum-cut (suc n) a f h z = go (le-or-lt a n) (λ k. sum-cut n a f k (λ i p q. z i p (omega arith)))
+  where
+    go : (a ≤ n) ⊎ (n < a) → (a ≤ n → sum n f ≡ sum a f) → sum n f + f n ≡ sum a f
+    go (inl k) r = omega (arith, r k, z n k (omega arith))
+    go (inr k) r = let e : a ≡ suc n = omega arith in rw e

@@ -1,0 +1,83 @@
+-- How the planner's arrays stand to the rule's placements after each round.
+use mathlib.Core.Bool.{not, _&&_}
+use mathlib.Core.Logic.{_⊎_}
+use mathlib.Core.Path.{_≡_}
+use mathlib.Core.List.{List}
+use Prim.Native.Nat.{ℕ, _+_, _*_, _≤_, _<_}
+use lib.Dec.{eqb}
+use lib.Dec.{T as Holds}
+use lib.ListN.{length, getD}
+use Rattle.job.specs.Job.{Edge}
+use Rattle.job.specs.Number.{pick}
+use Rattle.job.specs.Write.{values, edgeHeld}
+use Rattle.etf.specs.Lists.{_∈_, upto}
+use Rattle.etf.specs.Instance.{Instance, WellFormed, tasks, duration}
+use Rattle.etf.specs.Schedule.{Placement, placed, placementOf, finish, reach, end}
+use Rattle.etf.specs.Rule.{State}
+use Rattle.etf.specs.Laws.Sums.{sum, one-if}
+use Rattle.schedule.specs.Pass.{most, placedMark}
+
+abbrev pub state : ℕ → List Placement → State
+state cm ps = record { clock = cm; placements = ps }
+
+-- an instance held in arrays: what the planner relies on
+pub record Given (I : Instance) (l : ℕ) (durations from to counts : List ℕ) : Type 0 where
+  pub well : WellFormed I
+  pub by-number : I .order ≡ upto (tasks I)
+  pub few-processors : I .processors ≤ 16
+  pub few-tasks : tasks I ≤ 256
+  pub few-edges : l ≤ 1024
+  pub listed : I .edges ≡ values (edgeHeld from to counts) 0 l
+  pub timed : (T : ℕ) → T < tasks I → getD durations T 0 ≡ duration I T
+  pub short : (T : ℕ) → T < tasks I → duration I T ≤ 1000000
+  pub rising : (i k : ℕ) → i ≤ k → k < l → getD from i 0 ≤ getD from k 0
+  pub within : (k : ℕ) → k < l → (getD from k 0 < getD to k 0) × (getD to k 0 < tasks I)
+  pub few-messages : (k : ℕ) → k < l → getD counts k 0 ≤ 1000
+  pub near : (p q : ℕ) → I .cost p q ≤ 800
+
+module _ (I : Instance) (l : ℕ) (from to counts : List ℕ) where
+  -- edge k
+  abbrev pub edgeOf : ℕ → Edge
+  edgeOf k = edgeHeld from to counts k
+
+  -- edge k goes to task T, and its predecessor is placed: when its messages reach P, and when that predecessor finishes; else 0
+  unfoldable pub reached : List Placement → ℕ → ℕ → ℕ → ℕ
+  reached ps T P k = pick (placed ps (getD from k 0) && eqb (getD to k 0) T) (reach I ps P (edgeOf k)) 0
+
+  unfoldable pub finishedBy : List Placement → ℕ → ℕ → ℕ
+  finishedBy ps T k = pick (placed ps (getD from k 0) && eqb (getD to k 0) T) (finish I (placementOf ps (getD from k 0))) 0
+
+  -- 1 if edge k goes to task T from a task that is not placed
+  unfoldable pub awaited : List Placement → ℕ → ℕ → ℕ
+  awaited ps T k = one-if (eqb (getD to k 0) T && not (placed ps (getD from k 0)))
+
+  -- the clock cm and the placements ps, and the planner's arrays and numbers
+  pub record Progress (cm : ℕ) (ps : List Placement) (starts processors arrivals waiting latest busy : List ℕ) (low e : ℕ) : Type 0 where
+    -- the starts and processors of the placed tasks
+    pub start-at : (T : ℕ) → Holds (placed ps T) → getD starts T 0 ≡ placementOf ps T .start
+    pub processor-at : (T : ℕ) → Holds (placed ps T) → getD processors T 0 ≡ placementOf ps T .processor
+    -- what the placed predecessors have sent
+    pub arrival-at : (T P : ℕ) → T < tasks I → P < I .processors → getD arrivals (16 * T + P) 0 ≡ most l (reached ps T P)
+    pub latest-at : (T : ℕ) → T < tasks I → getD latest T 0 ≡ most l (finishedBy ps T)
+    -- the predecessors that are not placed, or the mark of a placed task
+    pub waiting-placed : (T : ℕ) → Holds (placed ps T) → getD waiting T 0 ≡ placedMark
+    pub waiting-open : (T : ℕ) → T < tasks I → Holds (not (placed ps T)) → getD waiting T 0 ≡ sum l (awaited ps T)
+    -- the last finish on each processor: every other has passed
+    pub busy-last : (u : Placement) → u ∈ ps → (finish I u ≤ cm) ⊎ (finish I u ≡ getD busy (u .processor) 0)
+    pub busy-whose : (P : ℕ) → P < I .processors → (getD busy P 0 ≡ 0) ⊎ ((u : Placement) × (u ∈ ps) × (u .processor ≡ P) × (finish I u ≡ getD busy P 0))
+    -- the first task that is not placed
+    pub low-most : low ≤ tasks I
+    pub below-low : (T : ℕ) → T < low → Holds (placed ps T)
+    pub at-low : low < tasks I → Holds (not (placed ps low))
+    -- the greatest finish
+    pub end-is : e ≡ end I ps
+
+-- what a round leaves alone: the places past the tasks, and the arrivals where there is no task or no processor
+pub record Untouched (I : Instance) (starts₀ processors₀ arrivals₀ starts processors arrivals : List ℕ) : Type 0 where
+  pub starts-size : length starts ≡ length starts₀
+  pub processors-size : length processors ≡ length processors₀
+  pub arrivals-size : length arrivals ≡ length arrivals₀
+  pub starts-past : (T : ℕ) → tasks I ≤ T → getD starts T 0 ≡ getD starts₀ T 0
+  pub processors-past : (T : ℕ) → tasks I ≤ T → getD processors T 0 ≡ getD processors₀ T 0
+  pub spare-task : (T P : ℕ) → tasks I ≤ T → P < 16 → getD arrivals (16 * T + P) 0 ≡ getD arrivals₀ (16 * T + P) 0
+  pub spare-processor : (T P : ℕ) → I .processors ≤ P → P < 16 → getD arrivals (16 * T + P) 0 ≡ getD arrivals₀ (16 * T + P) 0

@@ -1,0 +1,5 @@
+pub mod Plan
+pub mod Check
+pub mod PlanBytes
+pub mod Pass
+pub mod Laws

@@ -1,0 +1,59 @@
+-- A call of the planner: its answer, and what the borrowed slices hold afterwards.
+use mathlib.Core.Bool.{_&&_, _||_}
+use mathlib.Core.List.{List, _++_, map}
+use Prim.Native.Nat.{ℕ, _/_, _%_}
+use lib.Dec.{ltb}
+use lib.ListN.{length, drop}
+use Rattle.job.specs.Number.{pick}
+use Rattle.job.specs.Read.{Answer, accepted, refused, readJob}
+use Rattle.etf.specs.Lists.{upto}
+use Rattle.etf.specs.Instance.{Instance, tasks}
+use Rattle.etf.specs.Schedule.{placementOf, arrival, end}
+use Rattle.etf.specs.Rule.{planned}
+use Rattle.etf.specs.OfJob.{instance}
+use Rattle.schedule.specs.declared.Planned.{Planned}
+use Rattle.schedule.specs.declared.Planned.the-variants.{Plan, Refused}
+
+-- what a call returns, and the last content of the starts, the processors and the scratch that it was lent
+pub record PlanCall : Type 0 where
+  pub answer : Planned
+  pub starts : List ℕ
+  pub processors : List ℕ
+  pub scratch : List ℕ
+
+abbrev pub called : Planned → List ℕ → List ℕ → List ℕ → PlanCall
+called r starts processors scratch = record { answer = r; starts = starts; processors = processors; scratch = scratch }
+
+-- a slice whose first k places hold f 0 .. f (k - 1), and whose others hold what they held (01: "places past m keep their old content")
+unfoldable pub filled : (ℕ → ℕ) → ℕ → List ℕ → List ℕ
+filled f k old = map f (upto k) ++ drop k old
+
+module _ (I : Instance) where
+  -- the start and the processor of task T in the planner's schedule
+  unfoldable pub startOf : ℕ → ℕ
+  startOf T = placementOf (planned I) T .start
+
+  unfoldable pub processorOf : ℕ → ℕ
+  processorOf T = placementOf (planned I) T .processor
+
+  -- 01: "at place 16T + P the arrival of step T at board P, and 0 in every other of the first 4,096 places"
+  unfoldable pub scratchAt : ℕ → ℕ
+  scratchAt x = pick (ltb (x / 16) (tasks I) && ltb (x % 16) (I .processors)) (arrival I (planned I) (x / 16) (x % 16)) 0
+
+  -- on acceptance (01: "the planner m and the end")
+  unfoldable pub planCalled : List ℕ → List ℕ → List ℕ → PlanCall
+  planCalled starts processors scratch =
+      called (Plan (tasks I) (end I (planned I))) (filled startOf (tasks I) starts) (filled processorOf (tasks I) processors) (filled scratchAt 4096 scratch)
+
+-- 01: 9, "a lent slice too short": fewer than m starts, m processors or 4,096 places of scratch
+-- (01: "Every refusal returns its number alone and alters no lent slice")
+unfoldable pub planFor : Answer → List ℕ → List ℕ → List ℕ → PlanCall
+planFor (accepted j) starts processors scratch =
+    pick (ltb (length starts) (tasks (instance j)) || (ltb (length processors) (tasks (instance j)) || ltb (length scratch) 4096))
+    (called (Refused 9) starts processors scratch)
+    (planCalled (instance j) starts processors scratch)
+planFor (refused k) starts processors scratch = called (Refused k) starts processors scratch
+
+-- the call for a file and the borrowed slices
+unfoldable pub planCall : List ℕ → List ℕ → List ℕ → List ℕ → PlanCall
+planCall file starts processors scratch = planFor (readJob file) starts processors scratch

@@ -1,0 +1,61 @@
+-- The calls from C, on job bytes and plan bytes (01: "it calls planner and checker with job bytes and a plan of 5 bytes a step").
+use mathlib.Core.Option.{Option, none, some}
+use mathlib.Core.List.{List, _∷_, _++_, flatMap}
+use Prim.Native.Nat.{ℕ, _+_, _*_}
+use lib.Dec.{ltb}
+use lib.ListN.{length, getD, take, drop}
+use Rattle.job.specs.Number.{pick, number, bytes}
+use Rattle.job.specs.Read.{Answer, accepted, refused, readJob}
+use Rattle.etf.specs.Lists.{upto}
+use Rattle.etf.specs.Instance.{Instance, tasks}
+use Rattle.etf.specs.OfJob.{instance}
+use Rattle.schedule.specs.Plan.{startOf, processorOf}
+use Rattle.schedule.specs.Check.{judged}
+
+-- what a call returns, 0 or the refusal's number, and the last content of the plan
+pub record BytesCall : Type 0 where
+  pub number : ℕ
+  pub plan : List ℕ
+
+abbrev pub returned : ℕ → List ℕ → BytesCall
+returned k plan = record { number = k; plan = plan }
+
+-- 01: "board then start (4 bytes, little-endian)"
+unfoldable pub taskBytes : ℕ → ℕ → List ℕ
+taskBytes processor start = processor ∷ bytes 4 start
+
+-- the bytes of a plan, task by task
+unfoldable pub planBytes : ℕ → (ℕ → ℕ) → (ℕ → ℕ) → List ℕ
+planBytes m processor start = flatMap (λ T. taskBytes (processor T) (start T)) (upto m)
+
+-- the processor and the start of task T in a plan's bytes
+unfoldable pub processorIn : List ℕ → ℕ → ℕ
+processorIn plan T = getD plan (5 * T) 0
+
+unfoldable pub startIn : List ℕ → ℕ → ℕ
+startIn plan T = number (take 4 (drop (5 * T + 1) plan))
+
+-- 01: "9 if that is shorter than 5m"; "the planner fills the first 5m bytes"
+unfoldable pub planBytesFor : Answer → List ℕ → BytesCall
+planBytesFor (accepted j) plan =
+    pick (ltb (length plan) (5 * tasks (instance j))) (returned 9 plan)
+    (returned 0 (planBytes (tasks (instance j)) (processorOf (instance j)) (startOf (instance j)) ++ drop (5 * tasks (instance j)) plan))
+planBytesFor (refused k) plan = returned k plan
+
+-- the planner's call from C
+unfoldable pub planBytesCall : List ℕ → List ℕ → BytesCall
+planBytesCall file plan = planBytesFor (readJob file) plan
+
+-- 0 for a yes, else the refusal's number
+unfoldable pub numberOf : Option ℕ → ℕ
+numberOf none = 0
+numberOf (some k) = k
+
+unfoldable pub checkBytesFor : Answer → List ℕ → ℕ
+checkBytesFor (accepted j) plan =
+    pick (ltb (length plan) (5 * tasks (instance j))) 9 (numberOf (judged (instance j) (processorIn plan) (startIn plan)))
+checkBytesFor (refused k) plan = k
+
+-- the checker's call from C
+unfoldable pub checkBytesCall : List ℕ → List ℕ → ℕ
+checkBytesCall file plan = checkBytesFor (readJob file) plan

@@ -1,0 +1,151 @@
+// The checker (document 01, "The checker"): the number of a plan's first trouble, or 0 for none.
+use crate::number;
+use job::Platform;
+ghost use mathlib.Core.Path.{_≡_};
+ghost use mathlib.Core.List.{[]};
+ghost use Prim.Native.Nat.{ℕ, _≤_, _<_};
+ghost use lib.ListN.{length, getD};
+ghost use Rattle.job.specs.Write.{heldJob};
+ghost use Rattle.etf.specs.OfJob.{instance};
+ghost use Rattle.schedule.specs.Check.{judged};
+ghost use Rattle.schedule.specs.PlanBytes.{numberOf};
+ghost use Rattle.schedule.specs.Pass.{InArrays, Judgeable, someIn, placeTroubles, overlapAt, overlapsLater, earlyAt};
+
+// Task by task: 10 for its processor, 11 for its start.
+fn misplaced(tasks: usize, n: usize, starts: &[u32], processors: &[u8]) -> u8
+    requires { ⌜ (tasks ≤ length (now starts)) × (tasks ≤ length (now processors)) ⌝ }
+    ensures { λ r. ⌜ r ≡ placeTroubles n (now (starts .entry)) (now (processors .entry)) 0 tasks ⌝ }
+{
+    let mut t: usize = 0;
+    while t < tasks {
+        if n <= number::index(processors[t]) {
+            return 10;
+        }
+        if 600000000 < starts[t] {
+            return 11;
+        }
+        t += 1;
+    }
+    0
+}
+
+// Whether task t overlaps a later one on its processor.
+fn overlaps_later(
+    t: usize,
+    tasks: usize,
+    durations: &[u32],
+    starts: &[u32],
+    processors: &[u8],
+) -> bool
+    requires { ⌜ (t < tasks) × Judgeable tasks (now durations) (now starts) (now processors) ⌝ }
+    ensures { λ r. ⌜ r ≡ overlapsLater (now (durations .entry)) (now (starts .entry)) (now (processors .entry)) tasks t ⌝ }
+{
+    let processor = processors[t];
+    let start = starts[t];
+    let finish = start + durations[t];
+    let mut u = t + 1;
+    while u < tasks {
+        if processors[u] == processor {
+            let other = starts[u];
+            if other < finish {
+                if start < other + durations[u] {
+                    return true;
+                }
+            }
+        }
+        u += 1;
+    }
+    false
+}
+
+fn any_overlap(tasks: usize, durations: &[u32], starts: &[u32], processors: &[u8]) -> bool
+    requires { ⌜ Judgeable tasks (now durations) (now starts) (now processors) ⌝ }
+    ensures { λ r. ⌜ r ≡ someIn (overlapsLater (now (durations .entry)) (now (starts .entry)) (now (processors .entry)) tasks) 0 tasks ⌝ }
+{
+    let mut t: usize = 0;
+    while t < tasks {
+        if overlaps_later(t, tasks, durations, starts, processors) {
+            return true;
+        }
+        t += 1;
+    }
+    false
+}
+
+// Whether a task starts before the messages of one of its edges are there.
+fn any_early(
+    tasks: usize,
+    edges: usize,
+    durations: &[u32],
+    from: &[u8],
+    to: &[u8],
+    counts: &[u16],
+    costs: [[u32; 16]; 16],
+    starts: &[u32],
+    processors: &[u8],
+) -> bool
+    requires { ⌜ Judgeable tasks (now durations) (now starts) (now processors) × (edges ≤ length (now from)) × (edges ≤ length (now to)) × (edges ≤ length (now counts)) ⌝ }
+    requires { ⌜ ((k : ℕ) → k < edges → (getD (now from) k 0 < tasks) × (getD (now to) k 0 < tasks) × (getD (now counts) k 0 ≤ 1000)) ⌝ }
+    requires { ⌜ ((T : ℕ) → T < tasks → getD (now processors) T 0 < 16) × ((p q : ℕ) → getD (getD costs p []) q 0 ≤ 800) ⌝ }
+    ensures { λ r. ⌜ r ≡ someIn (earlyAt (now (durations .entry)) (now (starts .entry)) (now (processors .entry)) (now (from .entry)) (now (to .entry)) (now (counts .entry)) costs) 0 edges ⌝ }
+{
+    let mut k: usize = 0;
+    while k < edges {
+        let s = number::index(from[k]);
+        let t = number::index(to[k]);
+        let p = number::index(processors[s]);
+        let q = number::index(processors[t]);
+        let sent = starts[s] + durations[s];
+        let arrival = sent + number::wide16(counts[k]) * costs[p][q];
+        if starts[t] < arrival {
+            return true;
+        }
+        k += 1;
+    }
+    false
+}
+
+// The number of the plan's first trouble, or 0.
+pub fn trouble<'a>(
+    platform: Platform,
+    tasks: usize,
+    edges: usize,
+    durations: &'a [u32],
+    from: &'a [u8],
+    to: &'a [u8],
+    counts: &'a [u16],
+    costs: [[u32; 16]; 16],
+    starts: &[u32],
+    processors: &[u8],
+) -> u8
+    requires { ⌜ InArrays platform tasks edges (now durations) (now from) (now to) (now counts) costs ⌝ }
+    requires { ⌜ (tasks ≤ length (now starts)) × (tasks ≤ length (now processors)) ⌝ }
+    ensures { λ r. ⌜ r ≡ numberOf (judged (instance (heldJob platform tasks edges (now (durations .entry)) (now (from .entry)) (now (to .entry)) (now (counts .entry)))) (λ T. getD (now (processors .entry)) T 0) (λ T. getD (now (starts .entry)) T 0)) ⌝ }
+{
+    let number = misplaced(
+        tasks,
+        number::index(platform.processors),
+        starts,
+        processors,
+    );
+    if number != 0 {
+        return number;
+    }
+    if any_overlap(tasks, durations, starts, processors) {
+        return 12;
+    }
+    if any_early(
+        tasks,
+        edges,
+        durations,
+        from,
+        to,
+        counts,
+        costs,
+        starts,
+        processors,
+    ) {
+        return 13;
+    }
+    0
+}

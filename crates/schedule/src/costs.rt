@@ -1,0 +1,62 @@
+// Link costs (document 01, "Link costs").
+use crate::hypercube;
+use crate::number;
+use job::Platform;
+ghost use mathlib.Core.Path.{_≡_};
+ghost use Prim.Native.Nat.{_≤_, _<_};
+ghost use Rattle.etf.specs.Topology.{ringHops, hops as hopsOf, cost as costOf, square as squareOf};
+
+fn ring_hops(n: usize, p: usize, q: usize) -> u32
+    requires { ⌜ (n ≤ 16) × (p < n) × (q < n) ⌝ }
+    ensures { λ r. ⌜ r ≡ ringHops n p q ⌝ }
+{
+    let d = if p < q { q - p } else { p - q };
+    if d < n - d {
+        return d as u32;
+    }
+    (n - d) as u32
+}
+
+fn hops(platform: Platform, p: usize, q: usize) -> u32
+    requires { ⌜ (platform .processors ≤ 16) × (platform .topology ≤ 2) × (p < platform .processors) × (q < platform .processors) ⌝ }
+    ensures { λ r. ⌜ r ≡ hopsOf platform p q ⌝ }
+{
+    let topology = platform.topology;
+    if topology == 0 {
+        return 1;
+    }
+    if topology == 1 {
+        return number::wide8(hypercube::hops(p, q));
+    }
+    ring_hops(number::index(platform.processors), p, q)
+}
+
+fn cost(platform: Platform, p: usize, q: usize) -> u32
+    requires { ⌜ (platform .processors ≤ 16) × (platform .topology ≤ 2) × (platform .unit ≤ 100) × (p < platform .processors) × (q < platform .processors) ⌝ }
+    ensures { λ r. ⌜ r ≡ costOf platform p q ⌝ }
+{
+    if p == q {
+        return 0;
+    }
+    number::wide8(platform.unit) * hops(platform, p, q)
+}
+
+// The costs as a square of sixteen rows of sixteen, 0 where a processor is absent.
+pub fn square(platform: Platform) -> [[u32; 16]; 16]
+    requires { ⌜ (platform .processors ≤ 16) × (platform .topology ≤ 2) × (platform .unit ≤ 100) ⌝ }
+    ensures { λ r. ⌜ r ≡ squareOf (platform .processors) (costOf platform) ⌝ }
+{
+    let n = number::index(platform.processors);
+    let mut costs = [[0u32; 16]; 16];
+    let mut p: usize = 0;
+    while p < n {
+        let mut q: usize = 0;
+        while q < n {
+            let x = cost(platform, p, q);
+            costs[p][q] = x;
+            q += 1;
+        }
+        p += 1;
+    }
+    costs
+}

@@ -1,0 +1,185 @@
+// The planner and the checker, for Rattle and for C (document 01).
+mod checker;
+mod costs;
+mod encoding;
+mod graph;
+mod hypercube;
+mod number;
+mod planner;
+
+use job::Verdict;
+ghost use mathlib.Core.Path.{_≡_};
+ghost use Prim.Native.Nat.{_≤_};
+ghost use lib.ListN.{length};
+ghost use Rattle.schedule.specs.Plan.{called, filled, planCall};
+ghost use Rattle.schedule.specs.Check.{checkCall};
+ghost use Rattle.schedule.specs.PlanBytes.{returned, planBytesCall, checkBytesCall};
+ghost use Rattle.schedule.specs.Pass.{verdictNumber};
+
+// What planning a job gives: the number of its tasks and the plan's end, or the refusal's number.
+pub enum Planned {
+    Plan { tasks: usize, end: u32 },
+    Refused(u8),
+}
+
+// What checking a plan gives: a yes, or the refusal's number.
+pub enum Checked {
+    Yes,
+    Refused(u8),
+}
+
+// The number of a refused file.
+fn refusal(verdict: Verdict) -> u8
+    ensures { λ r. ⌜ r ≡ verdictNumber verdict ⌝ }
+{
+    match verdict {
+        Verdict::Counts { tasks: _, edges: _ } => 0,
+        Verdict::Refused(number) => number,
+    }
+}
+
+fn clear(scratch: &mut [u32])
+    requires { ⌜ 4096 ≤ length (now scratch) ⌝ }
+    ensures { λ _. ⌜ now (scratch .exit) ≡ filled (λ x. 0) 4096 (now (scratch .entry)) ⌝ }
+{
+    let mut x: usize = 0;
+    while x < 4096 {
+        scratch[x] = 0;
+        x += 1;
+    }
+}
+
+// Plans the job of a file (01: the planner).
+pub fn plan(file: &[u8], starts: &mut [u32], processors: &mut [u8], scratch: &mut [u32]) -> Planned
+    ensures { λ r. ⌜ called r (now (starts .exit)) (now (processors .exit)) (now (scratch .exit)) ≡ planCall (now (file .entry)) (now (starts .entry)) (now (processors .entry)) (now (scratch .entry)) ⌝ }
+{
+    let r = job::read(file);
+    let verdict = r.verdict;
+    let Verdict::Counts { tasks, edges } = verdict else {
+        return Planned::Refused(refusal(verdict));
+    };
+    if starts.len() < tasks {
+        return Planned::Refused(9);
+    }
+    if processors.len() < tasks {
+        return Planned::Refused(9);
+    }
+    if scratch.len() < 4096 {
+        return Planned::Refused(9);
+    }
+    clear(scratch);
+    let costs = costs::square(r.platform);
+    let end = planner::run(
+        r.platform,
+        tasks,
+        edges,
+        &r.durations,
+        &r.from,
+        &r.to,
+        &r.counts,
+        costs,
+        starts,
+        processors,
+        scratch,
+    );
+    Planned::Plan { tasks, end }
+}
+
+// Judges a plan for the job of a file (01: the checker).
+pub fn check(file: &[u8], starts: &[u32], processors: &[u8]) -> Checked
+    ensures { λ r. ⌜ r ≡ checkCall (now (file .entry)) (now (starts .entry)) (now (processors .entry)) ⌝ }
+{
+    let r = job::read(file);
+    let verdict = r.verdict;
+    let Verdict::Counts { tasks, edges } = verdict else {
+        return Checked::Refused(refusal(verdict));
+    };
+    if starts.len() < tasks {
+        return Checked::Refused(9);
+    }
+    if processors.len() < tasks {
+        return Checked::Refused(9);
+    }
+    let costs = costs::square(r.platform);
+    let trouble = checker::trouble(
+        r.platform,
+        tasks,
+        edges,
+        &r.durations,
+        &r.from,
+        &r.to,
+        &r.counts,
+        costs,
+        starts,
+        processors,
+    );
+    if trouble != 0 {
+        return Checked::Refused(trouble);
+    }
+    Checked::Yes
+}
+
+// Plans the job of `job` into 5 bytes a task of `plan`: 0, or the refusal's number.
+#[no_mangle]
+pub extern "C" fn kelvrist_plan(job: &[u8], plan: &mut [u8]) -> u32
+    ensures { λ r. ⌜ returned r (now (plan .exit)) ≡ planBytesCall (now (job .entry)) (now (plan .entry)) ⌝ }
+{
+    let r = job::read(job);
+    let verdict = r.verdict;
+    let Verdict::Counts { tasks, edges } = verdict else {
+        return number::wide8(refusal(verdict));
+    };
+    if plan.len() < 5 * tasks {
+        return 9;
+    }
+    let mut starts = [0u32; 256];
+    let mut processors = [0u8; 256];
+    let mut arrivals = [0u32; 4096];
+    let costs = costs::square(r.platform);
+    planner::run(
+        r.platform,
+        tasks,
+        edges,
+        &r.durations,
+        &r.from,
+        &r.to,
+        &r.counts,
+        costs,
+        &mut starts,
+        &mut processors,
+        &mut arrivals,
+    );
+    encoding::put(tasks, &starts, &processors, plan);
+    0
+}
+
+// Judges 5 bytes a task of `plan` for the job of `job`: 0 for a yes, or the refusal's number.
+#[no_mangle]
+pub extern "C" fn kelvrist_check(job: &[u8], plan: &[u8]) -> u32
+    ensures { λ r. ⌜ r ≡ checkBytesCall (now (job .entry)) (now (plan .entry)) ⌝ }
+{
+    let r = job::read(job);
+    let verdict = r.verdict;
+    let Verdict::Counts { tasks, edges } = verdict else {
+        return number::wide8(refusal(verdict));
+    };
+    if plan.len() < 5 * tasks {
+        return 9;
+    }
+    let mut starts = [0u32; 256];
+    let mut processors = [0u8; 256];
+    encoding::get(tasks, plan, &mut starts, &mut processors);
+    let costs = costs::square(r.platform);
+    number::wide8(checker::trouble(
+        r.platform,
+        tasks,
+        edges,
+        &r.durations,
+        &r.from,
+        &r.to,
+        &r.counts,
+        costs,
+        &starts,
+        &processors,
+    ))
+}

@@ -1,0 +1,358 @@
+// The planning rule (document 01, "The planning rule").
+use crate::graph;
+use crate::number;
+use job::Platform;
+ghost use mathlib.Core.Path.{_≡_};
+ghost use Prim.Native.Nat.{ℕ, _+_, _*_, _-_, _≤_, _<_};
+ghost use lib.ListN.{length, getD, set};
+ghost use Rattle.job.specs.Write.{heldJob};
+ghost use Rattle.etf.specs.OfJob.{instance};
+ghost use Rattle.etf.specs.Laws.Sums.{sum, one-if};
+ghost use Rattle.schedule.specs.Pass.{Surveyed, Raised, Sent, Skipped, Put, Looked, Placed, placedMark, InArrays, Room, Ran, firstBest, rowOf, noPair, searched, sentTo};
+
+// A task, a processor and the start that the task would have there; 4294967295 where there is none.
+pub struct Pair {
+    pub start: u32,
+    pub task: usize,
+    pub processor: usize,
+}
+
+// The next moment (01: NM), 4294967295 where it is endless, and the number of free processors.
+pub struct Moment {
+    pub next: u32,
+    pub free: usize,
+}
+
+// The next moment, and the pair that the rule takes.
+pub struct Choice {
+    pub next: u32,
+    pub pair: Pair,
+}
+
+// Looks over the processors at the clock: the free ones go to `free`.
+fn survey(busy: &[u32], processors: usize, clock: u32, free: &mut [usize]) -> Moment
+    requires { ⌜ (processors ≤ 16) × (length (now busy) ≡ 16) × (length (now free) ≡ 16) ⌝ }
+    ensures { λ r. ⌜ Surveyed (now (busy .entry)) processors clock (now (free .exit)) r ⌝ }
+{
+    let mut next: u32 = 4294967295;
+    let mut count: usize = 0;
+    let mut p: usize = 0;
+    while p < processors {
+        let finish = busy[p];
+        if finish <= clock {
+            free[count] = p;
+            count += 1;
+        } else {
+            if finish < next {
+                next = finish;
+            }
+        }
+        p += 1;
+    }
+    Moment { next, free: count }
+}
+
+// Tries a task on each free processor. Nothing beats a pair that can start at the clock.
+fn try_task(
+    task: usize,
+    clock: u32,
+    arrivals: &[u32],
+    free: &[usize],
+    count: usize,
+    leader: Pair,
+) -> Pair
+    requires { ⌜ (task < 256) × (4096 ≤ length (now arrivals)) × (count ≤ length (now free)) ⌝ }
+    requires { ⌜ ((i : ℕ) → i < count → getD (now free) i 0 < 16) × (clock < leader .start) ⌝ }
+    ensures { λ r. ⌜ r ≡ firstBest leader (rowOf clock (now (arrivals .entry)) (now (free .entry)) count task) ⌝ }
+{
+    let mut best = leader;
+    let mut i: usize = 0;
+    while i < count {
+        let p = free[i];
+        let arrival = arrivals[16 * task + p];
+        if arrival <= clock {
+            return Pair {
+                start: clock,
+                task,
+                processor: p,
+            };
+        }
+        if arrival < best.start {
+            best = Pair {
+                start: arrival,
+                task,
+                processor: p,
+            };
+        }
+        i += 1;
+    }
+    best
+}
+
+// The first pair of smallest start among the ready tasks from `low` on and the free processors.
+fn choose(
+    clock: u32,
+    low: usize,
+    tasks: usize,
+    waiting: &[u16],
+    latest: &[u32],
+    arrivals: &[u32],
+    free: &[usize],
+    count: usize,
+) -> Pair
+    requires { ⌜ (clock < 4294967295) × (low ≤ tasks) × (tasks ≤ 256) × (length (now waiting) ≡ 256) × (length (now latest) ≡ 256) × (4096 ≤ length (now arrivals)) ⌝ }
+    requires { ⌜ (count ≤ length (now free)) × ((i : ℕ) → i < count → getD (now free) i 0 < 16) ⌝ }
+    ensures { λ r. ⌜ r ≡ searched clock (now (waiting .entry)) (now (latest .entry)) (rowOf clock (now (arrivals .entry)) (now (free .entry)) count) low (tasks - low) noPair ⌝ }
+{
+    let mut best = Pair {
+        start: 4294967295,
+        task: 0,
+        processor: 0,
+    };
+    if count == 0 {
+        return best;
+    }
+    let mut t = low;
+    while t < tasks {
+        if waiting[t] == 0 {
+            if latest[t] <= clock {
+                best = try_task(t, clock, arrivals, free, count, best);
+                if best.start <= clock {
+                    return best;
+                }
+            }
+        }
+        t += 1;
+    }
+    best
+}
+
+// Looks over processors and tasks at the clock.
+fn look(
+    clock: u32,
+    low: usize,
+    tasks: usize,
+    processors: usize,
+    busy: &[u32],
+    waiting: &[u16],
+    latest: &[u32],
+    arrivals: &[u32],
+) -> Choice
+    requires { ⌜ (processors ≤ 16) × (clock < 4294967295) × (low ≤ tasks) × (tasks ≤ 256) ⌝ }
+    requires { ⌜ (length (now busy) ≡ 16) × (length (now waiting) ≡ 256) × (length (now latest) ≡ 256) × (4096 ≤ length (now arrivals)) ⌝ }
+    ensures { λ r. ⌜ Looked clock low tasks processors (now (busy .entry)) (now (waiting .entry)) (now (latest .entry)) (now (arrivals .entry)) r ⌝ }
+{
+    let mut free = [0usize; 16];
+    let moment = survey(busy, processors, clock, &mut free);
+    let pair = choose(
+        clock,
+        low,
+        tasks,
+        waiting,
+        latest,
+        arrivals,
+        &free,
+        moment.free,
+    );
+    Choice {
+        next: moment.next,
+        pair,
+    }
+}
+
+// Raises the arrivals of a task by what one predecessor sends to it.
+fn raise(arrivals: &mut [u32], task: usize, processors: usize, finish: u32, count: u32, row: &[u32])
+    requires { ⌜ (task < 256) × (processors ≤ 16) × (4096 ≤ length (now arrivals)) × (length (now row) ≡ 16) ⌝ }
+    requires { ⌜ (finish ≤ 460000000) × (count ≤ 1000) × ((P : ℕ) → getD (now row) P 0 ≤ 800) ⌝ }
+    ensures { λ _. ⌜ Raised processors task finish count (now (row .entry)) (now (arrivals .entry)) (now (arrivals .exit)) ⌝ }
+{
+    let mut p: usize = 0;
+    while p < processors {
+        let arrival = finish + count * row[p];
+        if arrivals[16 * task + p] < arrival {
+            arrivals[16 * task + p] = arrival;
+        }
+        p += 1;
+    }
+}
+
+// A task that finishes at `finish` sends along its edges, `first` to before `last`; `row` has the costs from its processor.
+fn send(
+    first: usize,
+    last: usize,
+    finish: u32,
+    processors: usize,
+    row: &[u32],
+    to: &[u8],
+    counts: &[u16],
+    arrivals: &mut [u32],
+    waiting: &mut [u16],
+    latest: &mut [u32],
+)
+    requires { ⌜ (first ≤ last) × (last ≤ length (now to)) × (last ≤ length (now counts)) × (processors ≤ 16) × (finish ≤ 460000000) ⌝ }
+    requires { ⌜ (4096 ≤ length (now arrivals)) × (length (now waiting) ≡ 256) × (length (now latest) ≡ 256) × (length (now row) ≡ 16) ⌝ }
+    requires { ⌜ ((P : ℕ) → getD (now row) P 0 ≤ 800) × ((k : ℕ) → k < last → getD (now counts) k 0 ≤ 1000) ⌝ }
+    requires { ⌜ ((T : ℕ) → sum last (λ k. one-if (sentTo (now to) first T k)) ≤ getD (now waiting) T 0) ⌝ }
+    ensures { λ _. ⌜ Sent first last finish processors (now (row .entry)) (now (to .entry)) (now (counts .entry)) (now (arrivals .entry)) (now (arrivals .exit)) (now (waiting .entry)) (now (waiting .exit)) (now (latest .entry)) (now (latest .exit)) ⌝ }
+{
+    let mut k = first;
+    while k < last {
+        let t = number::index(to[k]);
+        raise(
+            arrivals,
+            t,
+            processors,
+            finish,
+            number::wide16(counts[k]),
+            row,
+        );
+        if latest[t] < finish {
+            latest[t] = finish;
+        }
+        waiting[t] = waiting[t] - 1;
+        k += 1;
+    }
+}
+
+// The first task from `low` on that is not placed; 65535 in place of a waiting count marks a placed one.
+fn skip(waiting: &[u16], low: usize, tasks: usize) -> usize
+    requires { ⌜ (low ≤ tasks) × (tasks ≤ length (now waiting)) ⌝ }
+    ensures { λ r. ⌜ Skipped (now (waiting .entry)) low tasks r ⌝ }
+{
+    let mut t = low;
+    while t < tasks {
+        if waiting[t] != 65535 {
+            return t;
+        }
+        t += 1;
+    }
+    tasks
+}
+
+// Writes down a placement.
+fn put(
+    task: usize,
+    processor: usize,
+    start: u32,
+    finish: u32,
+    starts: &mut [u32],
+    processors: &mut [u8],
+    busy: &mut [u32],
+    waiting: &mut [u16],
+)
+    requires { ⌜ (task < length (now starts)) × (task < length (now processors)) × (processor < length (now busy)) × (task < length (now waiting)) × (processor < 16) ⌝ }
+    ensures { λ _. ⌜ Put task processor start finish (now (starts .entry)) (now (starts .exit)) (now (processors .entry)) (now (processors .exit)) (now (busy .entry)) (now (busy .exit)) (now (waiting .entry)) (now (waiting .exit)) ⌝ }
+{
+    starts[task] = start;
+    processors[task] = processor as u8;
+    busy[processor] = finish;
+    waiting[task] = 65535;
+}
+
+// Places a task that finishes at `finish` and sends along its edges; returns the first task that is left.
+fn place(
+    pair: Pair,
+    finish: u32,
+    first: usize,
+    last: usize,
+    low: usize,
+    tasks: usize,
+    n: usize,
+    row: &[u32],
+    to: &[u8],
+    counts: &[u16],
+    starts: &mut [u32],
+    processors: &mut [u8],
+    arrivals: &mut [u32],
+    waiting: &mut [u16],
+    latest: &mut [u32],
+    busy: &mut [u32],
+) -> usize
+    requires { ⌜ (pair .task < length (now starts)) × (pair .task < length (now processors)) × (pair .task < 256) × (pair .processor < 16) × (low ≤ tasks) × (tasks ≤ 256) ⌝ }
+    requires { ⌜ (first ≤ last) × (last ≤ length (now to)) × (last ≤ length (now counts)) × (n ≤ 16) × (finish ≤ 460000000) ⌝ }
+    requires { ⌜ (4096 ≤ length (now arrivals)) × (length (now waiting) ≡ 256) × (length (now latest) ≡ 256) × (length (now busy) ≡ 16) × (length (now row) ≡ 16) ⌝ }
+    requires { ⌜ ((P : ℕ) → getD (now row) P 0 ≤ 800) × ((k : ℕ) → k < last → getD (now counts) k 0 ≤ 1000) ⌝ }
+    requires { ⌜ ((T : ℕ) → sum last (λ k. one-if (sentTo (now to) first T k)) ≤ getD (set (now waiting) (pair .task) placedMark) T 0) ⌝ }
+    ensures { λ r. ⌜ Placed pair finish first last low tasks n (now (row .entry)) (now (to .entry)) (now (counts .entry)) (now (starts .entry)) (now (starts .exit)) (now (processors .entry)) (now (processors .exit)) (now (arrivals .entry)) (now (arrivals .exit)) (now (waiting .entry)) (now (waiting .exit)) (now (latest .entry)) (now (latest .exit)) (now (busy .entry)) (now (busy .exit)) r ⌝ }
+{
+    let t = pair.task;
+    let p = pair.processor;
+    put(t, p, pair.start, finish, starts, processors, busy, waiting);
+    send(
+        first,
+        last,
+        finish,
+        n,
+        row,
+        to,
+        counts,
+        arrivals,
+        waiting,
+        latest,
+    );
+    skip(waiting, low, tasks)
+}
+
+// Plans a job, and returns the end. The arrivals begin with 4,096 zeros.
+pub fn run<'a>(
+    platform: Platform,
+    tasks: usize,
+    edges: usize,
+    durations: &'a [u32],
+    from: &'a [u8],
+    to: &'a [u8],
+    counts: &'a [u16],
+    costs: [[u32; 16]; 16],
+    starts: &mut [u32],
+    processors: &mut [u8],
+    arrivals: &mut [u32],
+) -> u32
+    requires { ⌜ InArrays platform tasks edges (now durations) (now from) (now to) (now counts) costs ⌝ }
+    requires { ⌜ Room tasks (now starts) (now processors) (now arrivals) ⌝ }
+    ensures { λ r. ⌜ Ran (instance (heldJob platform tasks edges (now (durations .entry)) (now (from .entry)) (now (to .entry)) (now (counts .entry)))) tasks r (now (starts .entry)) (now (starts .exit)) (now (processors .entry)) (now (processors .exit)) (now (arrivals .entry)) (now (arrivals .exit)) ⌝ }
+{
+    let n = number::index(platform.processors);
+    let runs = graph::runs(from, tasks, edges);
+    let mut waiting = graph::predecessors(to, edges);
+    let mut latest = [0u32; 256];
+    let mut busy = [0u32; 16];
+    let mut clock: u32 = 0;
+    let mut end: u32 = 0;
+    let mut low: usize = 0;
+    let mut rounds: usize = 0;
+    while low < tasks {
+        let choice = look(clock, low, tasks, n, &busy, &waiting, &latest, arrivals);
+        let pair = choice.pair;
+        if pair.start <= choice.next {
+            let t = pair.task;
+            let p = pair.processor;
+            let finish = pair.start + durations[t];
+            let row = costs[p];
+            low = place(
+                pair,
+                finish,
+                runs[t],
+                runs[t + 1],
+                low,
+                tasks,
+                n,
+                &row,
+                to,
+                counts,
+                starts,
+                processors,
+                arrivals,
+                &mut waiting,
+                &mut latest,
+                &mut busy,
+            );
+            if end < finish {
+                end = finish;
+            }
+        } else {
+            clock = choice.next;
+        }
+        rounds += 1;
+    }
+    end
+}
