@@ -1,5 +1,6 @@
 pub mod Most
 pub mod Encoded
+pub mod First
 pub mod Filled
 pub mod Tried
 pub mod Sending

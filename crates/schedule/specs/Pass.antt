@@ -34,6 +34,12 @@ unfoldable pub most : ℕ → (ℕ → ℕ) → ℕ
 most zero f = 0
 most (suc n) f = max (most n f) (f n)
 
+-- r is the first place below m where `bad` holds, or m where there is none
+pub record First (bad : ℕ → Type 0) (m r : ℕ) : Type 0 where
+  pub to-most : r ≤ m
+  pub before : (T : ℕ) → T < r → bad T → ⊥
+  pub there : r < m → bad r
+
 -- one of f i .. f (i + k - 1) is true
 unfoldable pub someIn : (ℕ → Bool) → ℕ → ℕ → Bool
 someIn f i zero = false

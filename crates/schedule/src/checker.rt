@@ -9,22 +9,50 @@ ghost use Rattle.job.specs.Write.{heldJob};
 ghost use Rattle.etf.specs.OfJob.{instance};
 ghost use Rattle.schedule.specs.Check.{judged};
 ghost use Rattle.schedule.specs.PlanBytes.{numberOf};
-ghost use Rattle.schedule.specs.Pass.{InArrays, Judgeable, someIn, placeTroubles, overlapAt, overlapsLater, earlyAt};
+ghost use Rattle.schedule.specs.Pass.{InArrays, Judgeable, First, someIn, placeTroubles, overlapAt, overlapsLater, earlyAt};
 
-// Task by task: 10 for its processor, 11 for its start.
-fn misplaced(tasks: usize, n: usize, starts: &[u32], processors: &[u8]) -> u8
-    requires { ⌜ (tasks ≤ length (now starts)) × (tasks ≤ length (now processors)) ⌝ }
-    ensures { λ r. ⌜ r ≡ placeTroubles n (now (starts .entry)) (now (processors .entry)) 0 tasks ⌝ }
+// The first task whose processor is not below n, or `tasks`.
+fn first_absent(tasks: usize, n: usize, processors: &[u8]) -> usize
+    requires { ⌜ tasks ≤ length (now processors) ⌝ }
+    ensures { λ r. ⌜ First (λ T. n ≤ getD (now (processors .entry)) T 0) tasks r ⌝ }
 {
     let mut t: usize = 0;
     while t < tasks {
         if n <= number::index(processors[t]) {
-            return 10;
-        }
-        if 600000000 < starts[t] {
-            return 11;
+            return t;
         }
         t += 1;
+    }
+    tasks
+}
+
+// The first task that starts after 600,000,000, or `tasks`.
+fn first_late(tasks: usize, starts: &[u32]) -> usize
+    requires { ⌜ tasks ≤ length (now starts) ⌝ }
+    ensures { λ r. ⌜ First (λ T. 600000000 < getD (now (starts .entry)) T 0) tasks r ⌝ }
+{
+    let mut t: usize = 0;
+    while t < tasks {
+        if 600000000 < starts[t] {
+            return t;
+        }
+        t += 1;
+    }
+    tasks
+}
+
+// Task by task: 10 for its processor, then 11 for its start.
+fn misplaced(tasks: usize, n: usize, starts: &[u32], processors: &[u8]) -> u8
+    requires { ⌜ (tasks ≤ length (now starts)) × (tasks ≤ length (now processors)) ⌝ }
+    ensures { λ r. ⌜ r ≡ placeTroubles n (now (starts .entry)) (now (processors .entry)) 0 tasks ⌝ }
+{
+    let absent = first_absent(tasks, n, processors);
+    let late = first_late(tasks, starts);
+    if late < absent {
+        return 11;
+    }
+    if absent < tasks {
+        return 10;
     }
     0
 }
@@ -131,10 +159,8 @@ pub fn trouble<'a>(
     if number != 0 {
         return number;
     }
-    if any_overlap(tasks, durations, starts, processors) {
-        return 12;
-    }
-    if any_early(
+    let overlap = any_overlap(tasks, durations, starts, processors);
+    let early = any_early(
         tasks,
         edges,
         durations,
@@ -144,7 +170,11 @@ pub fn trouble<'a>(
         costs,
         starts,
         processors,
-    ) {
+    );
+    if overlap {
+        return 12;
+    }
+    if early {
         return 13;
     }
     0

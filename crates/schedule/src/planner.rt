@@ -328,11 +328,12 @@ pub fn run<'a>(
             let p = pair.processor;
             let finish = pair.start + durations[t];
             let row = costs[p];
+            let after = t + 1;
             low = place(
                 pair,
                 finish,
                 runs[t],
-                runs[t + 1],
+                runs[after],
                 low,
                 tasks,
                 n,

@@ -25,19 +25,9 @@ any-overlap-requires c κs =
     let at-start = at-index .before .before .before .before .before .before .before in
     judgeable _ _ _ _ _ _ _ _ (at-start .pre .0) _ _ _ _ (at-index .index .ensures .0) (at-misplaced .misplaced .ensures) (c .if1 .left) (at-start .pre .1)
 
-returns-2 : tie.Need-returns-2
-returns-2 c =
-    let at-any-overlap = c .before in
-    let at-if1 = at-any-overlap .before in
-    let at-misplaced = at-if1 .before in
-    let at-index = at-misplaced .before in
-    let at-start = at-index .before .before .before .before .before .before .before in
-    says-overlap _ _ _ _ _ _ _ _ (at-start .pre .0) _ _ _ _ (at-index .index .ensures .0) (at-misplaced .misplaced .ensures) (at-if1 .if1 .left)
-    _ (at-any-overlap .any-overlap .ensures) (c .if2 .taken)
-
 any-early-requires : tie.Need-any-early-requires
 any-early-requires c κs =
-    let at-if1 = c .before .before in
+    let at-if1 = c .before in
     let at-misplaced = at-if1 .before in
     let at-index = at-misplaced .before in
     let at-start = at-index .before .before .before .before .before .before .before in
@@ -57,11 +47,21 @@ any-early-requires c κs =
       ),
     )
 
+returns-2 : tie.Need-returns-2
+returns-2 c =
+    let at-any-overlap = c .before .before in
+    let at-if1 = at-any-overlap .before in
+    let at-misplaced = at-if1 .before in
+    let at-index = at-misplaced .before in
+    let at-start = at-index .before .before .before .before .before .before .before in
+    says-overlap _ _ _ _ _ _ _ _ (at-start .pre .0) _ _ _ _ (at-index .index .ensures .0) (at-misplaced .misplaced .ensures) (at-if1 .if1 .left)
+    _ (at-any-overlap .any-overlap .ensures) (c .if2 .taken)
+
 returns-3 : tie.Need-returns-3
 returns-3 c =
-    let at-any-early = c .before in
-    let at-if2 = at-any-early .before in
-    let at-any-overlap = at-if2 .before in
+    let at-if2 = c .before in
+    let at-any-early = at-if2 .before in
+    let at-any-overlap = at-any-early .before in
     let at-if1 = at-any-overlap .before in
     let at-misplaced = at-if1 .before in
     let at-index = at-misplaced .before in
@@ -71,9 +71,9 @@ returns-3 c =
 
 returns-4 : tie.Need-returns-4
 returns-4 c =
-    let at-any-early = c .before in
-    let at-if2 = at-any-early .before in
-    let at-any-overlap = at-if2 .before in
+    let at-if2 = c .before in
+    let at-any-early = at-if2 .before in
+    let at-any-overlap = at-any-early .before in
     let at-if1 = at-any-overlap .before in
     let at-misplaced = at-if1 .before in
     let at-index = at-misplaced .before in
@@ -89,7 +89,7 @@ trouble-spec =
     misplaced-requires
     returns
     any-overlap-requires
-    returns-2
     any-early-requires
+    returns-2
     returns-3
     returns-4)

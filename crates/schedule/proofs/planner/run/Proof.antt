@@ -197,14 +197,14 @@ mul-row c = record { fits = omega (arith, processor-low (c .before .before)) }
 array-copy-out-row : tie.Need-array-copy-out-row Inv-loop μ-loop
 array-copy-out-row c = processor-low (c .before .before)
 
+add-after : tie.Need-add-after Inv-loop μ-loop
+add-after c = record { fits = omega (arith, task-low (c .before .before .before), tasks-few (c .before .before .before)) }
+
 mul-place : tie.Need-mul-place Inv-loop μ-loop
 mul-place c = record { fits = omega (arith, task-low (c .before .before .before), tasks-few (c .before .before .before)) }
 
 array-read-place : tie.Need-array-read-place Inv-loop μ-loop
 array-read-place c = omega (arith, task-low (c .before .before .before), tasks-few (c .before .before .before))
-
-add-place : tie.Need-add-place Inv-loop μ-loop
-add-place c = record { fits = omega (arith, task-low (c .before .before .before), tasks-few (c .before .before .before)) }
 
 mul-place-2 : tie.Need-mul-place-2 Inv-loop μ-loop
 mul-place-2 c = record { fits = omega (arith, task-low (c .before .before .before), tasks-few (c .before .before .before)) }
@@ -306,9 +306,9 @@ run-spec =
     add-finish
     mul-row
     array-copy-out-row
+    add-after
     mul-place
     array-read-place
-    add-place
     mul-place-2
     array-read-place-2
     slice-aggregate-place
