@@ -323,7 +323,8 @@ pub fn run<'a>(
     while low < tasks {
         let choice = look(clock, low, tasks, n, &busy, &waiting, &latest, arrivals);
         let pair = choice.pair;
-        if pair.start <= choice.next {
+        let next = choice.next;
+        if pair.start <= next {
             let t = pair.task;
             let p = pair.processor;
             let finish = pair.start + durations[t];
@@ -351,7 +352,7 @@ pub fn run<'a>(
                 end = finish;
             }
         } else {
-            clock = choice.next;
+            clock = next;
         }
         rounds += 1;
     }

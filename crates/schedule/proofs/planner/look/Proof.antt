@@ -34,7 +34,7 @@ choose-requires c κs =
     let pre = at-survey .before .before .before .before .before .before .pre in
     let surveyed = at-survey .survey .ensures in (
       (pre .0 .1, pre .0 .2, pre .0 .3, pre .1 .1, pre .1 .2, pre .1 .3),
-      (omega (arith, surveyed .few, pre .0 .0, at-survey .survey .kept .1 .1 .1 .0), free-below _ _ _ _ _ surveyed (pre .0 .0)),
+      (omega (arith, surveyed .few, pre .0 .0, at-survey .survey .kept .1 .1 .1 .0), free-below _ _ _ _ _ surveyed (omega (arith, pre .0 .0))),
     )
 
 returns : tie.Need-returns

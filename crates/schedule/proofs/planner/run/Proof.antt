@@ -83,7 +83,7 @@ module _ (q : lts.In-loop (index-reads.Asked, index-reads.Learnt, runs-reads.Ask
 -- where the look found a pair that is placed
 module _ (w : lts.Then1 (index-reads.Asked, index-reads.Learnt, runs-reads.Asked, runs-reads.Learnt, predecessors-reads.Asked, predecessors-reads.Learnt, look-reads.Asked, look-reads.Learnt, place-reads.Asked, place-reads.Learnt) reads.Pre reads.Post Inv-loop μ-loop) where
   abbrev at-look : lts.After-look (index-reads.Asked, index-reads.Learnt, runs-reads.Asked, runs-reads.Learnt, predecessors-reads.Asked, predecessors-reads.Learnt, look-reads.Asked, look-reads.Learnt, place-reads.Asked, place-reads.Learnt) reads.Pre reads.Post Inv-loop μ-loop
-  at-look = w .before .before .before .before
+  at-look = w .before .before .before
 
   abbrev q : lts.In-loop (index-reads.Asked, index-reads.Learnt, runs-reads.Asked, runs-reads.Learnt, predecessors-reads.Asked, predecessors-reads.Learnt, look-reads.Asked, look-reads.Learnt, place-reads.Asked, place-reads.Learnt) reads.Pre reads.Post Inv-loop μ-loop
   q = at-look .before .before .before .before .before
@@ -91,17 +91,20 @@ module _ (w : lts.Then1 (index-reads.Asked, index-reads.Learnt, runs-reads.Asked
   abbrev pair : Pair
   pair = at-look .look .result .pair
 
+  in-time : pair .start ≤ at-look .look .result .next
+  in-time = omega (arith, w .if1 .taken)
+
   task-low : pair .task < begun q .args .tasks
   task-low =
-      task-below _ _ _ _ _ _ _ _ _ (here q) _ _ _ (begun q .pre .1) _ _ _ _ _ _ _ _ _ _ (going q) (q .loop-test .taken) _ (at-look .look .ensures) (w .if1 .taken)
+      task-below _ _ _ _ _ _ _ _ _ (here q) _ _ _ (begun q .pre .1) _ _ _ _ _ _ _ _ _ _ (going q) (q .loop-test .taken) _ (at-look .look .ensures) in-time
 
   processor-low : pair .processor < 16
   processor-low =
-      processor-below _ _ _ _ _ _ _ _ _ (here q) _ _ _ (begun q .pre .1) _ _ _ _ _ _ _ _ _ _ (going q) (q .loop-test .taken) _ (at-look .look .ensures) (w .if1 .taken)
+      processor-below _ _ _ _ _ _ _ _ _ (here q) _ _ _ (begun q .pre .1) _ _ _ _ _ _ _ _ _ _ (going q) (q .loop-test .taken) _ (at-look .look .ensures) in-time
 
   finish-low : pair .start + getD (begun q .args .durations .now) (pair .task) 0 ≤ 460000000
   finish-low =
-      finish-small _ _ _ _ _ _ _ _ _ (here q) _ _ _ (begun q .pre .1) _ _ _ _ _ _ _ _ _ _ (going q) (q .loop-test .taken) _ (at-look .look .ensures) (w .if1 .taken)
+      finish-small _ _ _ _ _ _ _ _ _ (here q) _ _ _ (begun q .pre .1) _ _ _ _ _ _ _ _ _ _ (going q) (q .loop-test .taken) _ (at-look .look .ensures) in-time
 
   row-long : length (getD (begun q .args .t8) (pair .processor) []) ≡ 16
   row-long = row-size _ _ _ _ _ _ _ _ (begun q .pre .0) (pair .processor) processor-low
@@ -112,7 +115,7 @@ module _ (w : lts.Then1 (index-reads.Asked, index-reads.Learnt, runs-reads.Asked
 -- after the round: the arrays as they are, for every platform
 module _ (c : lts.Joined1 (index-reads.Asked, index-reads.Learnt, runs-reads.Asked, runs-reads.Learnt, predecessors-reads.Asked, predecessors-reads.Learnt, look-reads.Asked, look-reads.Learnt, place-reads.Asked, place-reads.Learnt) reads.Pre reads.Post Inv-loop μ-loop) where
   abbrev looked : lts.After-look (index-reads.Asked, index-reads.Learnt, runs-reads.Asked, runs-reads.Learnt, predecessors-reads.Asked, predecessors-reads.Learnt, look-reads.Asked, look-reads.Learnt, place-reads.Asked, place-reads.Learnt) reads.Pre reads.Post Inv-loop μ-loop
-  looked = c .before .before .before .before
+  looked = c .before .before .before
 
   abbrev q₁ : lts.In-loop (index-reads.Asked, index-reads.Learnt, runs-reads.Asked, runs-reads.Learnt, predecessors-reads.Asked, predecessors-reads.Learnt, look-reads.Asked, look-reads.Learnt, place-reads.Asked, place-reads.Learnt) reads.Pre reads.Post Inv-loop μ-loop
   q₁ = looked .before .before .before .before .before
@@ -131,16 +134,16 @@ module _ (c : lts.Joined1 (index-reads.Asked, index-reads.Learnt, runs-reads.Ask
       let runs = q₁ .before .before .before .runs .ensures in
       ⊎-elim
       (λ w. carried _ _ _ _ _ _ _ _ _ _ _ _ _ _ _ _ _ _
-      (going-placed _ _ _ _ _ _ _ _ _ X _ _ _ R _ _ _ _ _ _ _ _ _ _ Y more _ (looked .look .ensures) (w .0 .taken) _ runs _ refl _ _ _ _ _ _ _ _ (w .11 .ensures)
+      (going-placed _ _ _ _ _ _ _ _ _ X _ _ _ R _ _ _ _ _ _ _ _ _ _ Y more _ (looked .look .ensures) (omega (arith, w .0 .taken)) _ runs _ refl _ _ _ _ _ _ _ _ (w .11 .ensures)
       (w .11 .kept .1 .1 .1 .1 .1 .1 .1 .1 .1 .1 .1 .1 .0) (w .11 .kept .1 .1 .1 .1 .1 .1 .1 .1 .1 .1 .1 .1 .1 .0) (w .11 .kept .1 .1 .1 .1 .1 .1 .1 .1 .1 .1 .1 .1 .1 .1 .0) (omega (arith, w .21 .taken)))
       _ _ _ _ _ _ _ _ _ (w .22) (w .23) (w .24) (w .25) (w .26) (w .27) (w .28) (w .29) (w .30))
       (⊎-elim
       (λ w. carried _ _ _ _ _ _ _ _ _ _ _ _ _ _ _ _ _ _
-      (going-placed _ _ _ _ _ _ _ _ _ X _ _ _ R _ _ _ _ _ _ _ _ _ _ Y more _ (looked .look .ensures) (w .0 .taken) _ runs _ refl _ _ _ _ _ _ _ _ (w .11 .ensures)
+      (going-placed _ _ _ _ _ _ _ _ _ X _ _ _ R _ _ _ _ _ _ _ _ _ _ Y more _ (looked .look .ensures) (omega (arith, w .0 .taken)) _ runs _ refl _ _ _ _ _ _ _ _ (w .11 .ensures)
       (w .11 .kept .1 .1 .1 .1 .1 .1 .1 .1 .1 .1 .1 .1 .0) (w .11 .kept .1 .1 .1 .1 .1 .1 .1 .1 .1 .1 .1 .1 .1 .0) (w .11 .kept .1 .1 .1 .1 .1 .1 .1 .1 .1 .1 .1 .1 .1 .1 .0) (omega (arith, w .21 .left)))
       _ _ _ _ _ _ _ _ _ (w .22) (w .23) (w .24) (w .25) (w .26) (w .27) (w .28) (w .29) (w .30))
       (λ w. carried _ _ _ _ _ _ _ _ _ _ _ _ _ _ _ _ _ _
-      (going-on _ _ _ _ _ _ _ _ _ X _ _ _ R _ _ _ _ _ _ _ _ _ _ Y more _ (looked .look .ensures) (w .0 .left))
+      (going-on _ _ _ _ _ _ _ _ _ X _ _ _ R _ _ _ _ _ _ _ _ _ _ Y more _ (looked .look .ensures) (omega (arith, w .0 .left)))
       _ _ _ _ _ _ _ _ _ (w .1) (w .2) (w .3) (w .4) (w .5) (w .6) (w .7) (w .8) (w .9)))
       (c .if1 .came)
 
@@ -235,12 +238,12 @@ place-requires c κs =
     let more = q .loop-test .taken in
     let runs = q .before .before .before .runs .ensures in
     let low = task-low w in
-    let within = run-within _ _ _ _ _ _ _ _ _ (here q) _ _ _ R _ _ _ _ _ _ _ _ _ _ (going q) more _ (look .look .ensures) (w .if1 .taken) _ runs in
+    let within = run-within _ _ _ _ _ _ _ _ _ (here q) _ _ _ R _ _ _ _ _ _ _ _ _ _ (going q) more _ (look .look .ensures) (in-time w) _ runs in
     let few = here q .arrays .few-edges in (
       (omega (arith, low, inv .0, R .for-starts), omega (arith, low, inv .1, R .for-processors), omega (arith, low, tasks-few w), processor-low w, omega (arith, more), tasks-few w),
       (
         (
-          run-rises _ _ _ _ _ _ _ _ _ (here q) _ _ _ R _ _ _ _ _ _ _ _ _ _ (going q) more _ (look .look .ensures) (w .if1 .taken) _ runs,
+          run-rises _ _ _ _ _ _ _ _ _ (here q) _ _ _ R _ _ _ _ _ _ _ _ _ _ (going q) more _ (look .look .ensures) (in-time w) _ runs,
           omega (arith, within, few, A .to-size),
           omega (arith, within, few, A .counts-size),
           few-processors _ _ _ _ _ _ _ _ _ (here q) _ _ _ R _ _ _ _ _ _ _ _ _ _ (going q) more,
@@ -250,7 +253,7 @@ place-requires c κs =
           (arrivals-room _ _ _ _ _ _ _ _ _ (here q) _ _ _ R _ _ _ _ _ _ _ _ _ _ (going q) more, inv .3, inv .4, inv .5, row-long w),
           (
             (λ P. cost-small _ _ _ _ _ _ _ _ A _ P, λ k h. here q .arrays .few-messages k (omega (arith, within, h))),
-            enough-waiting _ _ _ _ _ _ _ _ _ (here q) _ _ _ R _ _ _ _ _ _ _ _ _ _ (going q) more _ (look .look .ensures) (w .if1 .taken) _ runs,
+            enough-waiting _ _ _ _ _ _ _ _ _ (here q) _ _ _ R _ _ _ _ _ _ _ _ _ _ (going q) more _ (look .look .ensures) (in-time w) _ runs,
           ),
         ),
       ),
@@ -258,12 +261,12 @@ place-requires c κs =
 
 add-rounds : tie.Need-add-rounds Inv-loop μ-loop
 add-rounds c =
-    let q = c .before .before .before .before .before .before .before .before .before in
+    let q = c .before .before .before .before .before .before .before .before in
     record { fits = omega (arith, few-tasks _ _ _ _ _ _ _ _ _ (here q) _ _ _ (begun q .pre .1) _ _ _ _ _ _ _ _ _ _ (going q) (q .loop-test .taken), more-rounds _ _ _ _ _ _ _ _ _ (here q) _ _ _ (begun q .pre .1) _ _ _ _ _ _ _ _ _ _ (going q) (q .loop-test .taken)) }
 
 loop-less : tie.Need-loop-less Inv-loop μ-loop
 loop-less c =
-    let q = c .before .before .before .before .before .before .before .before .before in
+    let q = c .before .before .before .before .before .before .before .before in
     omega (arith, more-rounds _ _ _ _ _ _ _ _ _ (here q) _ _ _ (begun q .pre .1) _ _ _ _ _ _ _ _ _ _ (going q) (q .loop-test .taken))
 
 loop-again : tie.Need-loop-again Inv-loop μ-loop
