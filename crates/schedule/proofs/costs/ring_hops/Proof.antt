@@ -49,7 +49,7 @@ sub-result : tie.Need-sub-result
 sub-result c = let d = found (c .before .before) in omega arith
 
 cast-result-2 : tie.Need-cast-result-2
-cast-result-2 c = search needs
+cast-result-2 c = let d = found (c .before .before) in search needs
 
 returns-2 : tie.Need-returns-2
 returns-2 c = other-way _ _ _ _ (found (c .before .before) .0) (c .if2 .left)
