@@ -1,5 +1,6 @@
 pub mod Plan
 pub mod Check
 pub mod PlanBytes
+pub mod Cases
 pub mod Pass
 pub mod Laws
