@@ -58,7 +58,7 @@ put-requires : tie.Need-put-requires
 put-requires c κs =
     let at-run = c .before .before .before .before .before .before in
     let few = few-tasks _ _ _ _ (read-as _ _ _ _ (at-run .before .before .before .before .before .before .before .before .before .before .before .before .before .before .before .before .before .before .before .before .read .ensures) (at-run .before .before .before .before .before .before .before .before .before .before .before .before .before .before .before .before .before .before .verdict .given .1)) in
-    (omega (arith, few, at-run .run .kept .1 .1 .1 .1 .1 .1 .1 .1 .0), omega (arith, few, at-run .run .kept .1 .1 .1 .1 .1 .1 .1 .1 .1 .0), at-run .before .before .before .before .before .before .before .before .before .before .before .before .before .before .before .before .if1 .left)
+    (omega (arith, few, at-run .run .kept .1 .1 .1 .1 .1 .1 .1 .1 .0), omega (arith, few, at-run .run .kept .1 .1 .1 .1 .1 .1 .1 .1 .1 .0), omega (arith, at-run .before .before .before .before .before .before .before .before .before .before .before .before .before .before .before .before .if1 .left))
 
 same-length : tie.Need-same-length
 same-length c = search needs
