@@ -1,5 +1,6 @@
 pub mod Most
 pub mod Encoded
+pub mod Decoded
 pub mod First
 pub mod Filled
 pub mod Tried
@@ -15,3 +16,4 @@ pub mod Going
 pub mod Checked
 pub mod Reading
 pub mod Entries
+pub mod OwnPlan

@@ -2,5 +2,6 @@ pub mod Plan
 pub mod Check
 pub mod PlanBytes
 pub mod Cases
+pub mod OwnPlan
 pub mod Pass
 pub mod Laws

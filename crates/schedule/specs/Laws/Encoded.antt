@@ -22,7 +22,7 @@ use Rattle.schedule.specs.Check.{judged}
 use Rattle.schedule.specs.PlanBytes.{taskBytes, planBytes, processorIn, startIn}
 
 -- 0, 1, .. are the values of the row of numbers
-upto-values : (m : ℕ) → upto m ≡ values (λ i. i) 0 m
+pub upto-values : (m : ℕ) → upto m ≡ values (λ i. i) 0 m
 unfolding upto values
 upto-values zero = refl
 upto-values (suc m) = ap (λ (l : List ℕ). l ++ (m ∷ [])) (upto-values m) ∙ sym (values-snoc (λ i. i) 0 m ∙ rw (zero-add m))
@@ -30,15 +30,15 @@ upto-values (suc m) = ap (λ (l : List ℕ). l ++ (m ∷ [])) (upto-values m) �
 -- ---- put
 
 -- a task has five bytes
-task-size : (processor start : ℕ) → length (taskBytes processor start) ≡ 5
+pub task-size : (processor start : ℕ) → length (taskBytes processor start) ≡ 5
 unfolding taskBytes
 task-size processor start = ap suc (length-bytes 4 start)
 
 module _ (processor start : ℕ → ℕ) where
   -- and m tasks five times as many
-  size : (m : ℕ) → length (planBytes m processor start) ≡ 5 * m
+  pub plan-size : (m : ℕ) → length (planBytes m processor start) ≡ 5 * m
   unfolding planBytes
-  size m = flat-size (λ T. taskBytes (processor T) (start T)) (λ T. task-size (processor T) (start T)) (upto m) ∙ ap (λ (n : ℕ). 5 * n) (length-upto m)
+  plan-size m = flat-size (λ T. taskBytes (processor T) (start T)) (λ T. task-size (processor T) (start T)) (upto m) ∙ ap (λ (n : ℕ). 5 * n) (length-upto m)
 
   -- no task yet
   pub put-none : (plan : List ℕ) → plan ≡ sets plan 0 (planBytes 0 processor start)
@@ -57,7 +57,7 @@ module _ (processor start : ℕ → ℕ) where
   -- all of them
   pub put-all : (plan plan′ : List ℕ) (t m : ℕ) → t ≡ m → 5 * m ≤ length plan → plan′ ≡ sets plan 0 (planBytes t processor start) →
       plan′ ≡ planBytes m processor start ++ drop (5 * m) plan
-  put-all plan plan′ t m e h p = p ∙ rw e (sets-front plan (planBytes m processor start) (5 * m) (size m) h)
+  put-all plan plan′ t m e h p = p ∙ rw e (sets-front plan (planBytes m processor start) (5 * m) (plan-size m) h)
 
 -- ---- get
 
