@@ -1,3 +1,4 @@
+pub mod Lists
 pub mod Most
 pub mod Encoded
 pub mod Filled
