@@ -9,9 +9,12 @@ pub mod Given
 pub mod Look
 pub mod Search
 pub mod Turned
+pub mod Edges
 pub mod Placed
 pub mod Finished
 pub mod Going
+pub mod Rows
+pub mod Answer
 pub mod Checked
 pub mod Reading
 pub mod Entries

@@ -1,10 +1,10 @@
 -- The values of a numbered row: by place, as members, the first of them and the others, and as a map over 0, 1, .. . By induction on their number.
 use mathlib.Core.Path.{_≡_, refl, sym, ap, _∙_, subst}
-use mathlib.Core.List.{List, [], _∷_, map, map-append, map-id}
+use mathlib.Core.List.{[], _∷_, map, map-append, map-id}
 use Prim.Native.Nat.{ℕ, zero, suc, _+_, _-_, _≤_, _<_}
 use native.Mathlib.Nat.{add-zero, zero-add}
 use native.Mathlib.Omega.{arith}
-use lib.ListN.{length, getD}
+use lib.ListN.{getD}
 use Rattle.job.specs.Write.{values}
 use Rattle.job.specs.Laws.Values.{length-values, values-snoc}
 use Rattle.etf.specs.Lists.{_∈_, upto}
