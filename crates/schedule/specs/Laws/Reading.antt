@@ -70,9 +70,9 @@ module _ {file : List ℕ} {x : Reading} {m l : ℕ} (K : Read file x m l) where
   pub few-tasks : m ≤ 256
   few-tasks = omega (arith, K .tasks-are, K .sound .few-tasks)
 
-  pub in-arrays : (costs : List (List ℕ)) → costs ≡ square (x .platform .processors) (cost (x .platform))
+  pub in-arrays : {costs : List (List ℕ)} → costs ≡ square (x .platform .processors) (cost (x .platform))
       → InArrays (x .platform) m l (x .durations) (x .from) (x .to) (x .counts) costs
-  in-arrays costs e = record {
+  in-arrays e = record {
     accepted = held-sound;
     durations-size = K .durations-size;
     from-size = K .from-size;

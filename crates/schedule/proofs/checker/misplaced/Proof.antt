@@ -5,7 +5,7 @@ use native.Mathlib.Omega.{arith}
 use borrow.Author.Needs.{needs}
 use lib.ListN.{length}
 use Rattle.schedule.specs.Pass.{placeTroubles}
-use Rattle.schedule.specs.Laws.Checked.{no-task-left, no-processor, too-late, well-placed}
+use Rattle.schedule.specs.Laws.Answer.{no-task-left, no-processor, too-late, well-placed}
 use Rattle.schedule.proofs.checker.misplaced.Statement.{statement}
 use Rattle.schedule.proofs.checker.misplaced.Tie as tie
 
