@@ -1,3 +1,4 @@
+pub mod Lists
 pub mod Most
 pub mod Encoded
 pub mod Decoded
@@ -10,9 +11,12 @@ pub mod Given
 pub mod Look
 pub mod Search
 pub mod Turned
+pub mod Edges
 pub mod Placed
 pub mod Finished
 pub mod Going
+pub mod Rows
+pub mod Answer
 pub mod Checked
 pub mod Reading
 pub mod Entries

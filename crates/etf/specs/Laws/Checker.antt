@@ -77,10 +77,10 @@ module _ (I : Instance) where
   well-placed u (well p s) = (p, s)
 
   -- two tasks on one processor, each of which starts before the other's finish
-  abbrev Overlap : Placement → Placement → Type 0
+  abbrev pub Overlap : Placement → Placement → Type 0
   Overlap u v = (¬ (u .task ≡ v .task)) × (u .processor ≡ v .processor) × (v .start < finish I u) × (u .start < finish I v)
 
-  overlap-of : (u v : Placement) → Holds (overlap I u v) → Overlap u v
+  pub overlap-of : (u v : Placement) → Holds (overlap I u v) → Overlap u v
   unfolding overlap
   overlap-of u v h =
       let z = parts-of (eqb (u .task) (v .task)) (eqb (u .processor) (v .processor)) (leb (finish I u) (v .start)) (leb (finish I v) (u .start)) h in (
@@ -90,7 +90,7 @@ module _ (I : Instance) where
         nleb→lt (finish I v) (u .start) (z .3),
       )
 
-  overlap-in : (u v : Placement) → Overlap u v → Holds (overlap I u v)
+  pub overlap-in : (u v : Placement) → Overlap u v → Holds (overlap I u v)
   unfolding overlap
   overlap-in u v z =
       parts-in (eqb (u .task) (v .task)) (eqb (u .processor) (v .processor)) (leb (finish I u) (v .start)) (leb (finish I v) (u .start))
@@ -109,10 +109,10 @@ module _ (I : Instance) where
       go (inr a) (inr b) = absurd (not-both (overlap I u v) h (overlap-in u v (ne, p, a, b)))
 
   -- edge e goes from u's task to v's, and v starts before its messages are there
-  abbrev Early : Edge → Placement → Placement → Type 0
+  abbrev pub Early : Edge → Placement → Placement → Type 0
   Early e u v = (u .task ≡ e .from) × (v .task ≡ e .to) × (v .start < finish I u + messageTime I e (u .processor) (v .processor))
 
-  early-of : (e : Edge) (u v : Placement) → Holds (early I e u v) → Early e u v
+  pub early-of : (e : Edge) (u v : Placement) → Holds (early I e u v) → Early e u v
   unfolding early
   early-of e u v h =
       let a = eqb (u .task) (e .from) in
@@ -122,7 +122,7 @@ module _ (I : Instance) where
       let z = second a (b && c) h in
       (eqb→eq (u .task) (e .from) (first a (b && c) h), eqb→eq (v .task) (e .to) (first b c z), ltb→lt (v .start) t (second b c z))
 
-  early-in : (e : Edge) (u v : Placement) → Early e u v → Holds (early I e u v)
+  pub early-in : (e : Edge) (u v : Placement) → Early e u v → Holds (early I e u v)
   unfolding early
   early-in e u v z =
       let a = eqb (u .task) (e .from) in
@@ -148,11 +148,11 @@ module _ (I : Instance) where
       refused : (k : ℕ) → Because I ps k → Answer (some k)
 
     -- some two placements overlap
-    abbrev overlapping : Bool
+    abbrev pub overlapping : Bool
     overlapping = any (λ u. any (overlap I u) ps) ps
 
     -- some start is too early
-    abbrev hasty : Bool
+    abbrev pub hasty : Bool
     hasty = any (λ e. any (λ u. any (early I e u) ps) ps) (I .edges)
 
     because-place : (u : Placement) → u ∈ ps → (k : ℕ) → Place u (some k) → Because I ps k

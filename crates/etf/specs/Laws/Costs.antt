@@ -1,18 +1,19 @@
 -- How dear a message can be, and what stands in the square of costs: no way has more than eight hops, as a cube's has at most
 -- four and a ring's at most half of sixteen; and a row, as the square, is a map over the numbers from 0 on, read at its place.
 use mathlib.Core.Path.{_≡_, _∙_}
+use mathlib.Core.Logic.{_⊎_, inl, inr}
 use mathlib.Core.Bool.{Bool, true, false, not, _&&_}
 use mathlib.Core.List.{[], map}
 use Prim.Native.Nat.{ℕ, _*_, _≤_, _<_}
 use native.Mathlib.Omega.{arith}
 use native.Mathlib.Nat.{mul-le-mul}
 use lib.Dec.{ltb, eqb, lt→ltb, eqb-refl}
-use lib.ListN.{length, getD}
+use lib.ListN.{length, getD, List·getD-eq-default}
 use Rattle.job.specs.declared.Platform.{Platform}
 use Rattle.job.specs.Number.{pick}
 use Rattle.etf.specs.Lists.{upto}
 use Rattle.etf.specs.Topology.{binaryPlace, hypercubeHops, ringHops, hops, cost, square}
-use Rattle.etf.specs.Laws.Tests.{both, pick-yes}
+use Rattle.etf.specs.Laws.Tests.{both, pick-yes, le-or-lt}
 use Rattle.etf.specs.Laws.Lists.{length-filter-most, map-upto-at, map-upto-length}
 
 -- ---- hops and costs
@@ -71,6 +72,15 @@ module _ (n : ℕ) (c : ℕ → ℕ → ℕ) where
   -- the entry at p, q
   pub square-at : (p q : ℕ) → p < 16 → q < 16 → getD (getD (square n c) p []) q 0 ≡ pick (ltb p n && ltb q n) (c p q) 0
   square-at p q h k = rw (row-is p h) (map-upto-at (entry p) 16 q 0 k)
+
+  -- what no cost passes no entry passes
+  pub square-most : (b : ℕ) → ((p q : ℕ) → c p q ≤ b) → (p q : ℕ) → getD (getD (square n c) p []) q 0 ≤ b
+  square-most b near p q = go (le-or-lt 16 p) (le-or-lt 16 q)
+    where
+      go : (16 ≤ p) ⊎ (p < 16) → (16 ≤ q) ⊎ (q < 16) → getD (getD (square n c) p []) q 0 ≤ b
+      go (inl h) k = rw (List·getD-eq-default (square n c) [] {n = p} (omega (arith, square-length))) (omega arith)
+      go (inr h) (inl k) = rw (List·getD-eq-default (getD (square n c) p []) 0 {n = q} (omega (arith, row-length p h))) (omega arith)
+      go (inr h) (inr k) = rw (square-at p q h k) (pick-most (ltb p n && ltb q n) (c p q) 0 b (near p q) (omega arith))
 
   -- between two processors that are there it is the cost
   pub square-cost : (p q : ℕ) → n ≤ 16 → p < n → q < n → getD (getD (square n c) p []) q 0 ≡ c p q

@@ -117,6 +117,31 @@ unfolding greatest
 greatest-same f g [] e = refl
 greatest-same f g (x ∷ xs) e = cc (e x (here refl), greatest-same f g xs (λ a h. e a (there h)))
 
+-- functions and tests that agree on each member
+pub map-same : {A B : Type 0} (f g : A → B) (l : List A) → ((a : A) → a ∈ l → f a ≡ g a) → map f l ≡ map g l
+map-same f g [] e = refl
+map-same f g (x ∷ xs) e = rw (e x (here refl), map-same f g xs (λ a h. e a (there h)))
+
+pub flatMap-same : {A B : Type 0} (f g : A → List B) (l : List A) → ((a : A) → a ∈ l → f a ≡ g a) → flatMap f l ≡ flatMap g l
+unfolding flatMap
+flatMap-same f g [] e = refl
+flatMap-same f g (x ∷ xs) e = rw (e x (here refl), flatMap-same f g xs (λ a h. e a (there h)))
+
+pub filter-same : {A : Type 0} (p q : A → Bool) (l : List A) → ((a : A) → a ∈ l → p a ≡ q a) → filter p l ≡ filter q l
+unfolding filter
+filter-same p q [] e = refl
+filter-same p q (x ∷ xs) e = rw (e x (here refl), filter-same p q xs (λ a h. e a (there h)))
+
+pub filter-append : {A : Type 0} (p : A → Bool) (s t : List A) → filter p (s ++ t) ≡ filter p s ++ filter p t
+unfolding filter
+filter-append p [] t = refl
+filter-append {A} p (x ∷ s) t = go (p x) (filter-append p s t)
+  where
+    go : (b : Bool) → filter p (s ++ t) ≡ filter p s ++ filter p t
+        → pick b (x ∷ filter p (s ++ t)) (filter p (s ++ t)) ≡ pick b (x ∷ filter p s) (filter p s) ++ filter p t
+    go true e = ap (λ (l : List A). x ∷ l) e
+    go false e = e
+
 pub upto-in : (n i : ℕ) → i < n → i ∈ upto n
 unfolding upto
 upto-in zero i h = absurd (omega arith)
@@ -196,6 +221,12 @@ map-upto-length f n = length-map (upto n) f ∙ length-upto n
 pub place : {A : Type 0} (d : A) (l : List A) (a : A) → a ∈ l → (i : ℕ) × (i < length l) × (getD l i d ≡ a)
 place d (x ∷ xs) a (here e) = (0, omega arith, sym e)
 place d (x ∷ xs) a (there h) = let z = place d xs a h in (suc (z .0), omega (arith, z .1), z .2)
+
+-- and what stands at a place is a member
+pub at-in : {A : Type 0} (d : A) (l : List A) (i : ℕ) → i < length l → getD l i d ∈ l
+at-in d [] i h = absurd (omega arith)
+at-in d (x ∷ xs) zero h = here refl
+at-in d (x ∷ xs) (suc i) h = there (at-in d xs i (omega arith))
 
 -- ---- the best member
 

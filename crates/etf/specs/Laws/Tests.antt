@@ -3,7 +3,7 @@ use mathlib.Core.Path.{_≡_, refl, subst}
 use mathlib.Core.Logic.{_⊎_, inl, inr}
 use mathlib.Core.Bool.{Bool, true, false, not, _&&_, _||_}
 use Prim.Native.Nat.{ℕ, _≤_, _<_}
-use lib.Dec.{leb, eqb, leb→le, nleb→lt, eqb-refl}
+use lib.Dec.{leb, eqb, leb→le, nleb→lt, eqb→eq, eqb-refl}
 use lib.Dec.{T as Holds}
 use Rattle.job.specs.Number.{pick}
 
@@ -58,7 +58,25 @@ eq→eqb m n e = subst (λ (k : ℕ). Holds (eqb m k)) e (eqb-refl m)
 pub neqb→ne : (m n : ℕ) → Holds (not (eqb m n)) → m ≡ n → ⊥
 neqb→ne m n h e = not-both (eqb m n) h (eq→eqb m n e)
 
--- the order of two numbers, decided
+-- tests that give each other are the same
+pub same-test : (a b : Bool) → (Holds a → Holds b) → (Holds b → Holds a) → a ≡ b
+same-test true true f g = refl
+same-test true false f g = absurd (f tt)
+same-test false true f g = absurd (g tt)
+same-test false false f g = refl
+
+pub is-true : (b : Bool) → Holds b → b ≡ true
+is-true true h = refl
+is-true false h = absurd h
+
+pub is-false : (b : Bool) → (Holds b → ⊥) → b ≡ false
+is-false true h = absurd (h tt)
+is-false false h = refl
+
+-- two numbers, whether they are the same and in which order: decided
+pub same-or-not : (a b : ℕ) → (a ≡ b) ⊎ (a ≡ b → ⊥)
+same-or-not a b = elim (either (eqb a b)) [ inl h ↦ inl (eqb→eq a b h) | inr h ↦ inr (neqb→ne a b h) ]
+
 pub le-or-lt : (a b : ℕ) → (a ≤ b) ⊎ (b < a)
 le-or-lt a b = elim (either (leb a b)) [ inl h ↦ inl (leb→le a b h) | inr h ↦ inr (nleb→lt a b h) ]
 

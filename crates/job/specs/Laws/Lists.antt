@@ -44,7 +44,7 @@ pub padded-length : (n : ℕ) (xs : List ℕ) → length xs ≤ n → length (pa
 unfolding padded
 padded-length n xs h = simp (length-append, length-replicate) (omega arith)
 
-zeros-at : (n i : ℕ) → getD {A = ℕ} (replicate n 0) i 0 ≡ 0
+pub zeros-at : (n i : ℕ) → getD {A = ℕ} (replicate n 0) i 0 ≡ 0
 zeros-at zero i = refl
 zeros-at (suc n) zero = refl
 zeros-at (suc n) (suc i) = zeros-at n i

@@ -18,25 +18,55 @@ refusal-requires : tie.Need-refusal-requires
 refusal-requires c κs = search needs
 
 returns : tie.Need-returns
-returns c = check-passes-on _ _ (c .before .before .before .read .ensures) _ _ (c .before .enum-told .given .1) (c .refusal .ensures) _ _
+returns c = check-passes-on _ (c .before .before .before .read .ensures) (c .before .enum-told .given .1) (c .refusal .ensures) _ _
 
 returns-2 : tie.Need-returns-2
-returns-2 c = check-no-starts _ _ _ _ (read-as _ _ _ _ (c .before .before .before .before .read .ensures) (c .before .before .verdict .given .1)) _ _ (c .if1 .taken)
+returns-2 c =
+    let at-verdict = c .before .before in
+    let read = read-as (at-verdict .before .before .read .ensures) (at-verdict .verdict .given .1) in
+    check-no-starts read _ _ (c .if1 .taken)
 
 returns-3 : tie.Need-returns-3
-returns-3 c = check-no-processors _ _ _ _ (read-as _ _ _ _ (c .before .before .before .before .before .read .ensures) (c .before .before .before .verdict .given .1)) _ _ (c .before .if1 .left) (c .if2 .taken)
+returns-3 c =
+    let at-if1 = c .before in
+    let at-verdict = at-if1 .before .before in
+    let read = read-as (at-verdict .before .before .read .ensures) (at-verdict .verdict .given .1) in
+    check-no-processors read _ _ (at-if1 .if1 .left) (c .if2 .taken)
 
 square-requires : tie.Need-square-requires
-square-requires c κs = platform-fits _ _ _ _ (read-as _ _ _ _ (c .before .before .before .before .before .before .read .ensures) (c .before .before .before .before .verdict .given .1))
+square-requires c κs =
+    let at-verdict = c .before .before .before .before in
+    let read = read-as (at-verdict .before .before .read .ensures) (at-verdict .verdict .given .1) in
+    platform-fits read
 
 trouble-requires : tie.Need-trouble-requires
-trouble-requires c κs = (in-arrays _ _ _ _ (read-as _ _ _ _ (c .before .before .before .before .before .before .before .before .before .before .before .before .before .before .before .before .before .read .ensures) (c .before .before .before .before .before .before .before .before .before .before .before .before .before .before .before .verdict .given .1)) _ (c .before .before .before .before .before .before .before .before .before .before .square .ensures), (c .before .before .before .before .before .before .before .before .before .before .before .before .before .if1 .left, c .before .before .before .before .before .before .before .before .before .before .before .before .if2 .left))
+trouble-requires c κs =
+    let at-square = c .before .before .before .before .before .before .before .before .before .before in
+    let at-if2 = at-square .before .before in
+    let at-if1 = at-if2 .before in
+    let at-verdict = at-if1 .before .before in
+    let read = read-as (at-verdict .before .before .read .ensures) (at-verdict .verdict .given .1) in
+    (in-arrays read (at-square .square .ensures), (at-if1 .if1 .left, at-if2 .if2 .left))
 
 returns-4 : tie.Need-returns-4
-returns-4 c = check-trouble _ _ _ _ (read-as _ _ _ _ (c .before .before .before .before .before .before .before .before .before .before .before .before .before .before .before .before .before .before .before .read .ensures) (c .before .before .before .before .before .before .before .before .before .before .before .before .before .before .before .before .before .verdict .given .1)) _ _ _ (c .before .before .before .before .before .before .before .before .before .before .before .before .before .before .before .if1 .left) (c .before .before .before .before .before .before .before .before .before .before .before .before .before .before .if2 .left) (c .before .trouble .ensures) (c .if3 .taken)
+returns-4 c =
+    let at-trouble = c .before in
+    let at-square = at-trouble .before .before .before .before .before .before .before .before .before .before .before in
+    let at-if2 = at-square .before .before in
+    let at-if1 = at-if2 .before in
+    let at-verdict = at-if1 .before .before in
+    let read = read-as (at-verdict .before .before .read .ensures) (at-verdict .verdict .given .1) in
+    check-trouble read _ _ (at-if1 .if1 .left) (at-if2 .if2 .left) (at-trouble .trouble .ensures) (c .if3 .taken)
 
 returns-5 : tie.Need-returns-5
-returns-5 c = check-yes _ _ _ _ (read-as _ _ _ _ (c .before .before .before .before .before .before .before .before .before .before .before .before .before .before .before .before .before .before .before .read .ensures) (c .before .before .before .before .before .before .before .before .before .before .before .before .before .before .before .before .before .verdict .given .1)) _ _ _ (c .before .before .before .before .before .before .before .before .before .before .before .before .before .before .before .if1 .left) (c .before .before .before .before .before .before .before .before .before .before .before .before .before .before .if2 .left) (c .before .trouble .ensures) (c .if3 .left)
+returns-5 c =
+    let at-trouble = c .before in
+    let at-square = at-trouble .before .before .before .before .before .before .before .before .before .before .before in
+    let at-if2 = at-square .before .before in
+    let at-if1 = at-if2 .before in
+    let at-verdict = at-if1 .before .before in
+    let read = read-as (at-verdict .before .before .read .ensures) (at-verdict .verdict .given .1) in
+    check-yes read _ _ (at-if1 .if1 .left) (at-if2 .if2 .left) (at-trouble .trouble .ensures) (c .if3 .left)
 
 pub check-spec : {M : Type 1} → statement M
 check-spec =

@@ -1,9 +1,7 @@
 -- `kelvrist_plan` passes the reader's number on, refuses a short plan by 9, and else writes the bytes of what `planner::run` leaves in arrays of zeros.
-use Prim.Native.Nat.{ℕ, _≤_}
-use mathlib.Core.Path.{_≡_, _∙_}
-use mathlib.Core.List.{List}
+use mathlib.Core.Path.{_∙_}
 use native.Mathlib.Omega.{arith}
-use Rattle.schedule.specs.Laws.Reading.{Read, read-as, platform-fits, in-arrays, few-tasks}
+use Rattle.schedule.specs.Laws.Reading.{read-as, platform-fits, in-arrays, few-tasks}
 use Rattle.schedule.specs.Laws.Entries.{zeros-room, plan-bytes-passes-on, plan-bytes-short, plan-bytes-done}
 use borrow.Author.Needs.{needs}
 use Rattle.schedule.proofs.kelvrist_plan.Statement.{statement}
@@ -25,16 +23,26 @@ wide8-requires : tie.Need-wide8-requires
 wide8-requires c κs = search needs
 
 returns : tie.Need-returns
-returns c = plan-bytes-passes-on _ _ (c .before .before .before .before .read .ensures) _ _ (c .before .before .enum-told .given .1) (c .wide8 .ensures .0 ∙ c .before .refusal .ensures) _
+returns c =
+    plan-bytes-passes-on _ (c .before .before .before .before .read .ensures) (c .before .before .enum-told .given .1) (c .wide8 .ensures .0 ∙ c .before .refusal .ensures) _
 
 mul-if1 : tie.Need-mul-if1
-mul-if1 c = record { fits = omega (arith, few-tasks _ _ _ _ (read-as _ _ _ _ (c .before .before .before .read .ensures) (c .before .verdict .given .1))) }
+mul-if1 c =
+    let at-verdict = c .before in
+    let read = read-as (at-verdict .before .before .read .ensures) (at-verdict .verdict .given .1) in
+    record { fits = omega (arith, few-tasks read) }
 
 returns-2 : tie.Need-returns-2
-returns-2 c = plan-bytes-short _ _ _ _ (read-as _ _ _ _ (c .before .before .before .before .read .ensures) (c .before .before .verdict .given .1)) _ (c .if1 .taken)
+returns-2 c =
+    let at-verdict = c .before .before in
+    let read = read-as (at-verdict .before .before .read .ensures) (at-verdict .verdict .given .1) in
+    plan-bytes-short read _ (c .if1 .taken)
 
 square-requires : tie.Need-square-requires
-square-requires c κs = platform-fits _ _ _ _ (read-as _ _ _ _ (c .before .before .before .before .before .read .ensures) (c .before .before .before .verdict .given .1))
+square-requires c κs =
+    let at-verdict = c .before .before .before in
+    let read = read-as (at-verdict .before .before .read .ensures) (at-verdict .verdict .given .1) in
+    platform-fits read
 
 slice-aggregate-run : tie.Need-slice-aggregate-run
 slice-aggregate-run c = search needs
@@ -46,7 +54,12 @@ slice-aggregate-run-3 : tie.Need-slice-aggregate-run-3
 slice-aggregate-run-3 c = search needs
 
 run-requires : tie.Need-run-requires
-run-requires c κs = (in-arrays _ _ _ _ (read-as _ _ _ _ (c .before .before .before .before .before .before .before .before .before .before .before .before .before .before .before .before .before .before .before .read .ensures) (c .before .before .before .before .before .before .before .before .before .before .before .before .before .before .before .before .before .verdict .given .1)) _ (c .before .before .before .before .before .before .before .before .before .before .before .before .before .square .ensures), zeros-room _ (few-tasks _ _ _ _ (read-as _ _ _ _ (c .before .before .before .before .before .before .before .before .before .before .before .before .before .before .before .before .before .before .before .read .ensures) (c .before .before .before .before .before .before .before .before .before .before .before .before .before .before .before .before .before .verdict .given .1))))
+run-requires c κs =
+    let at-square = c .before .before .before .before .before .before .before .before .before .before .before .before .before in
+    let at-if1 = at-square .before .before in
+    let at-verdict = at-if1 .before .before in
+    let read = read-as (at-verdict .before .before .read .ensures) (at-verdict .verdict .given .1) in
+    (in-arrays read (at-square .square .ensures), zeros-room (few-tasks read))
 
 slice-aggregate-put : tie.Need-slice-aggregate-put
 slice-aggregate-put c = search needs
@@ -57,14 +70,23 @@ slice-aggregate-put-2 c = search needs
 put-requires : tie.Need-put-requires
 put-requires c κs =
     let at-run = c .before .before .before .before .before .before in
-    let few = few-tasks _ _ _ _ (read-as _ _ _ _ (at-run .before .before .before .before .before .before .before .before .before .before .before .before .before .before .before .before .before .before .before .before .read .ensures) (at-run .before .before .before .before .before .before .before .before .before .before .before .before .before .before .before .before .before .before .verdict .given .1)) in
-    (omega (arith, few, at-run .run .kept .1 .1 .1 .1 .1 .1 .1 .1 .0), omega (arith, few, at-run .run .kept .1 .1 .1 .1 .1 .1 .1 .1 .1 .0), omega (arith, at-run .before .before .before .before .before .before .before .before .before .before .before .before .before .before .before .before .if1 .left))
+    let at-if1 = at-run .before .before .before .before .before .before .before .before .before .before .before .before .before .before .before .before in
+    let at-verdict = at-if1 .before .before in
+    let read = read-as (at-verdict .before .before .read .ensures) (at-verdict .verdict .given .1) in
+    let few = few-tasks read in
+    (omega (arith, few, at-run .run .kept .1 .1 .1 .1 .1 .1 .1 .1 .0), omega (arith, few, at-run .run .kept .1 .1 .1 .1 .1 .1 .1 .1 .1 .0), omega (arith, at-if1 .if1 .left))
 
 same-length : tie.Need-same-length
 same-length c = search needs
 
 returns-3 : tie.Need-returns-3
-returns-3 c = plan-bytes-done _ _ _ _ (read-as _ _ _ _ (c .before .before .before .before .before .before .before .before .before .before .before .before .before .before .before .before .before .before .before .before .before .before .before .before .before .before .before .before .before .read .ensures) (c .before .before .before .before .before .before .before .before .before .before .before .before .before .before .before .before .before .before .before .before .before .before .before .before .before .before .before .verdict .given .1)) _ _ _ _ _ _ _ _ _ (c .before .before .before .before .before .before .before .before .before .before .before .before .before .before .before .before .before .before .before .before .before .before .before .before .before .if1 .left) (c .before .before .before .before .before .before .before .before .before .run .ensures) (c .before .before .put .ensures)
+returns-3 c =
+    let at-put = c .before .before in
+    let at-run = at-put .before .before .before .before .before .before .before in
+    let at-if1 = at-run .before .before .before .before .before .before .before .before .before .before .before .before .before .before .before .before in
+    let at-verdict = at-if1 .before .before in
+    let read = read-as (at-verdict .before .before .read .ensures) (at-verdict .verdict .given .1) in
+    plan-bytes-done read _ (at-if1 .if1 .left) (at-run .run .ensures) (at-put .put .ensures)
 
 pub kelvrist-plan-spec : {M : Type 1} → statement M
 kelvrist-plan-spec =

@@ -18,25 +18,48 @@ refusal-requires : tie.Need-refusal-requires
 refusal-requires c κs = search needs
 
 returns : tie.Need-returns
-returns c = plan-passes-on _ _ (c .before .before .before .read .ensures) _ _ (c .before .enum-told .given .1) (c .refusal .ensures) _ _ _
+returns c = plan-passes-on _ (c .before .before .before .read .ensures) (c .before .enum-told .given .1) (c .refusal .ensures) _ _ _
 
 returns-2 : tie.Need-returns-2
-returns-2 c = plan-no-starts _ _ _ _ (read-as _ _ _ _ (c .before .before .before .before .read .ensures) (c .before .before .verdict .given .1)) _ _ _ (c .if1 .taken)
+returns-2 c =
+    let at-verdict = c .before .before in
+    let read = read-as (at-verdict .before .before .read .ensures) (at-verdict .verdict .given .1) in
+    plan-no-starts read (c .if1 .taken)
 
 returns-3 : tie.Need-returns-3
-returns-3 c = plan-no-processors _ _ _ _ (read-as _ _ _ _ (c .before .before .before .before .before .read .ensures) (c .before .before .before .verdict .given .1)) _ _ _ (c .before .if1 .left) (c .if2 .taken)
+returns-3 c =
+    let at-if1 = c .before in
+    let at-verdict = at-if1 .before .before in
+    let read = read-as (at-verdict .before .before .read .ensures) (at-verdict .verdict .given .1) in
+    plan-no-processors read (at-if1 .if1 .left) (c .if2 .taken)
 
 returns-4 : tie.Need-returns-4
-returns-4 c = plan-no-scratch _ _ _ _ (read-as _ _ _ _ (c .before .before .before .before .before .before .read .ensures) (c .before .before .before .before .verdict .given .1)) _ _ _ (c .before .before .if1 .left) (c .before .if2 .left) (c .if3 .taken)
+returns-4 c =
+    let at-if2 = c .before in
+    let at-if1 = at-if2 .before in
+    let at-verdict = at-if1 .before .before in
+    let read = read-as (at-verdict .before .before .read .ensures) (at-verdict .verdict .given .1) in
+    plan-no-scratch read (at-if1 .if1 .left) (at-if2 .if2 .left) (c .if3 .taken)
 
 clear-requires : tie.Need-clear-requires
 clear-requires c κs = search needs
 
 square-requires : tie.Need-square-requires
-square-requires c κs = platform-fits _ _ _ _ (read-as _ _ _ _ (c .before .before .before .before .before .before .before .before .before .before .before .read .ensures) (c .before .before .before .before .before .before .before .before .before .verdict .given .1))
+square-requires c κs =
+    let at-verdict = c .before .before .before .before .before .before .before .before .before in
+    let read = read-as (at-verdict .before .before .read .ensures) (at-verdict .verdict .given .1) in
+    platform-fits read
 
 run-requires : tie.Need-run-requires
-run-requires c κs = (in-arrays _ _ _ _ (read-as _ _ _ _ (c .before .before .before .before .before .before .before .before .before .before .before .before .before .before .before .before .before .before .before .before .before .before .before .before .before .read .ensures) (c .before .before .before .before .before .before .before .before .before .before .before .before .before .before .before .before .before .before .before .before .before .before .before .verdict .given .1)) _ (c .before .before .before .before .before .before .before .before .before .before .before .before .before .square .ensures), cleared-room _ _ _ _ _ (c .before .before .before .before .before .before .before .before .before .before .before .before .before .before .before .before .before .before .before .before .before .if1 .left) (c .before .before .before .before .before .before .before .before .before .before .before .before .before .before .before .before .before .before .before .before .if2 .left) (c .before .before .before .before .before .before .before .before .before .before .before .before .before .before .before .before .before .before .before .if3 .left) (c .before .before .before .before .before .before .before .before .before .before .before .before .before .before .before .before .before .clear .ensures))
+run-requires c κs =
+    let at-square = c .before .before .before .before .before .before .before .before .before .before .before .before .before in
+    let at-clear = at-square .before .before .before .before in
+    let at-if3 = at-clear .before .before in
+    let at-if2 = at-if3 .before in
+    let at-if1 = at-if2 .before in
+    let at-verdict = at-if1 .before .before in
+    let read = read-as (at-verdict .before .before .read .ensures) (at-verdict .verdict .given .1) in
+    (in-arrays read (at-square .square .ensures), cleared-room _ (at-if1 .if1 .left) (at-if2 .if2 .left) (at-if3 .if3 .left) (at-clear .clear .ensures))
 
 same-length : tie.Need-same-length
 same-length c = search needs
@@ -48,7 +71,16 @@ same-length-3 : tie.Need-same-length-3
 same-length-3 c = search needs
 
 returns-5 : tie.Need-returns-5
-returns-5 c = plan-done _ _ _ _ (read-as _ _ _ _ (c .before .before .before .before .before .before .before .before .before .before .before .before .before .before .before .before .before .before .before .before .before .before .before .before .before .before .before .before .before .before .before .before .read .ensures) (c .before .before .before .before .before .before .before .before .before .before .before .before .before .before .before .before .before .before .before .before .before .before .before .before .before .before .before .before .before .before .verdict .given .1)) _ _ _ _ _ _ _ _ (c .before .before .before .before .before .before .before .before .before .before .before .before .before .before .before .before .before .before .before .before .before .before .before .before .before .before .before .before .if1 .left) (c .before .before .before .before .before .before .before .before .before .before .before .before .before .before .before .before .before .before .before .before .before .before .before .before .before .before .before .if2 .left) (c .before .before .before .before .before .before .before .before .before .before .before .before .before .before .before .before .before .before .before .before .before .before .before .before .before .before .if3 .left) (c .before .before .before .before .before .before .before .before .before .before .before .before .before .before .before .before .before .before .before .before .before .before .before .before .clear .ensures) (c .before .before .before .before .before .before .run .ensures)
+returns-5 c =
+    let at-run = c .before .before .before .before .before .before in
+    let at-square = at-run .before .before .before .before .before .before .before .before .before .before .before .before .before .before in
+    let at-clear = at-square .before .before .before .before in
+    let at-if3 = at-clear .before .before in
+    let at-if2 = at-if3 .before in
+    let at-if1 = at-if2 .before in
+    let at-verdict = at-if1 .before .before in
+    let read = read-as (at-verdict .before .before .read .ensures) (at-verdict .verdict .given .1) in
+    plan-done read _ (at-if1 .if1 .left) (at-if2 .if2 .left) (at-if3 .if3 .left) (at-clear .clear .ensures) (at-run .run .ensures)
 
 pub plan-spec : {M : Type 1} → statement M
 plan-spec =

@@ -1,31 +1,24 @@
 -- A plan's bytes against the two arrays that hold it, by stores that follow on each other and by place; of both, only the tasks' places count.
-use mathlib.Core.Path.{_≡_, refl, ap, sym, _∙_}
+use mathlib.Core.Path.{_≡_, refl, ap, _∙_}
 use mathlib.Core.Logic.{_⊎_, inl, inr}
-use mathlib.Core.List.{List, [], _∷_, _++_, map, flatMap}
-use Prim.Native.Nat.{ℕ, zero, suc, _+_, _*_, _≤_, _<_}
+use mathlib.Core.List.{List, _++_, flatMap}
+use Prim.Native.Nat.{ℕ, suc, _+_, _*_, _≤_, _<_}
 use native.Mathlib.Nat.{zero-add}
 use native.Mathlib.Omega.{arith}
 use lib.ListN.{length, getD, take, drop, set}
 use lib.Seq.{sets, getD-set-same, getD-set-other}
 use Rattle.job.specs.Number.{number}
-use Rattle.job.specs.Write.{values}
 use Rattle.job.specs.Laws.Number.{length-bytes}
-use Rattle.job.specs.Laws.Values.{values-snoc}
 use Rattle.job.specs.Laws.Stored.{sets-front, flat-size, store-more}
-use Rattle.etf.specs.Lists.{_∈_, here, there, upto}
+use Rattle.etf.specs.Lists.{upto}
 use Rattle.etf.specs.Instance.{Instance, tasks}
 use Rattle.etf.specs.Schedule.{scheduleOf}
 use Rattle.etf.specs.Checker.{check}
-use Rattle.etf.specs.Laws.Lists.{upto-of, length-upto}
+use Rattle.etf.specs.Laws.Lists.{upto-of, length-upto, map-same, flatMap-same}
 use Rattle.etf.specs.Laws.Tests.{le-or-lt}
 use Rattle.schedule.specs.Check.{judged}
 use Rattle.schedule.specs.PlanBytes.{taskBytes, planBytes, processorIn, startIn}
-
--- 0, 1, .. are the values of the row of numbers
-pub upto-values : (m : ℕ) → upto m ≡ values (λ i. i) 0 m
-unfolding upto values
-upto-values zero = refl
-upto-values (suc m) = ap (λ (l : List ℕ). l ++ (m ∷ [])) (upto-values m) ∙ sym (values-snoc (λ i. i) 0 m ∙ rw (zero-add m))
+use Rattle.schedule.specs.Laws.Lists.{upto-values}
 
 -- ---- put
 
@@ -80,19 +73,10 @@ got-more plan starts processors t s g hs hp e T h = go (le-or-lt (suc T) t)
 
 -- ---- only the tasks' places count
 
-flat-same : {A B : Type 0} (f g : A → List B) (l : List A) → ((a : A) → a ∈ l → f a ≡ g a) → flatMap f l ≡ flatMap g l
-unfolding flatMap
-flat-same f g [] e = refl
-flat-same f g (x ∷ xs) e = cc (e x (here refl), flat-same f g xs (λ a h. e a (there h)))
-
-map-same : {A B : Type 0} (f g : A → B) (l : List A) → ((a : A) → a ∈ l → f a ≡ g a) → map f l ≡ map g l
-map-same f g [] e = refl
-map-same f g (x ∷ xs) e = cc (e x (here refl), map-same f g xs (λ a h. e a (there h)))
-
 -- plans that are the same on the first m tasks have the same bytes
 pub plan-bytes-same : (m : ℕ) (p q s t : ℕ → ℕ) → ((T : ℕ) → T < m → p T ≡ q T) → ((T : ℕ) → T < m → s T ≡ t T) → planBytes m p s ≡ planBytes m q t
 unfolding planBytes
-plan-bytes-same m p q s t e h = flat-same _ _ (upto m) (λ T k. rw (e T (upto-of m T k), h T (upto-of m T k)))
+plan-bytes-same m p q s t e h = flatMap-same _ _ (upto m) (λ T k. rw (e T (upto-of m T k), h T (upto-of m T k)))
 
 -- and the checker says the same of them
 pub judged-same : (I : Instance) (p q s t : ℕ → ℕ) → ((T : ℕ) → T < tasks I → p T ≡ q T) → ((T : ℕ) → T < tasks I → s T ≡ t T) → judged I p s ≡ judged I q t

@@ -1,24 +1,20 @@
 -- Each return of the four entries is its row of the call's definition.
-use mathlib.Core.Bool.{true, false, _||_}
 use mathlib.Core.Option.{Option, none, some}
-use mathlib.Core.Path.{_≡_, refl, ap, sym, subst, _∙_}
+use mathlib.Core.Path.{_≡_, refl, ap, sym, _∙_}
 use mathlib.Core.List.{List, _++_}
-use Prim.Native.Nat.{ℕ, zero, suc, _*_, _≤_, _<_}
+use Prim.Native.Nat.{ℕ, _*_, _≤_, _<_}
 use native.Mathlib.Omega.{arith}
 use borrow.Author.Tests.{lt-ltb, le-ltb}
 use lib.ListN.{length, getD, drop, replicate, length-replicate}
-use Rattle.job.specs.declared.Verdict.{Verdict}
-use Rattle.job.specs.declared.Verdict.the-variants.{Counts, Refused}
+use Rattle.job.specs.declared.Verdict.the-variants.{Refused}
 use Rattle.job.specs.declared.Reading.{Reading}
-use Rattle.job.specs.Job.{Job}
-use Rattle.job.specs.Number.{pick}
-use Rattle.job.specs.Read.{Answer, accepted, refused, readJob, readingOf}
+use Rattle.job.specs.Read.{refused, readJob, readingOf}
 use Rattle.job.specs.Write.{heldJob}
+use Rattle.job.specs.Laws.Lists.{zeros-at}
 use Rattle.etf.specs.Instance.{Instance, tasks}
-use Rattle.etf.specs.Schedule.{scheduleOf, end}
+use Rattle.etf.specs.Schedule.{scheduleOf}
 use Rattle.etf.specs.Checker.{Because, no-processor, too-late, overlaps, too-early}
 use Rattle.etf.specs.Verdict.{number-only}
-use Rattle.etf.specs.Rule.{planned}
 use Rattle.etf.specs.OfJob.{instance}
 use Rattle.schedule.specs.declared.Planned.the-variants.{Plan, Refused as NotPlanned}
 use Rattle.schedule.specs.declared.Checked.the-variants.{Yes, Refused as NotChecked}
@@ -54,22 +50,17 @@ no-number (some k) z e = absurd (z (ap some e))
 
 -- ---- room for a plan
 
-pub cleared-room : (m : ℕ) (starts processors scratch cleared : List ℕ) → m ≤ length starts → m ≤ length processors → 4096 ≤ length scratch
+pub cleared-room : {m : ℕ} {starts processors : List ℕ} (scratch : List ℕ) {cleared : List ℕ} → m ≤ length starts → m ≤ length processors → 4096 ≤ length scratch
     → cleared ≡ filled (λ x. 0) 4096 scratch → Room m starts processors cleared
-cleared-room m starts processors scratch cleared a b c e = record {
+cleared-room scratch a b c e = record {
   for-starts = a;
   for-processors = b;
   for-arrivals = omega (arith, ap length e, filled-length (λ x. 0) 4096 scratch c);
   zeros = λ x h. ap (λ (q : List ℕ). getD q x 0) e ∙ filled-at (λ x. 0) 4096 scratch x h;
 }
 
-zeros-at : (n i : ℕ) → getD {A = ℕ} (replicate n 0) i 0 ≡ 0
-zeros-at zero i = refl
-zeros-at (suc n) zero = refl
-zeros-at (suc n) (suc i) = zeros-at n i
-
-pub zeros-room : (m : ℕ) → m ≤ 256 → Room m (replicate 256 0) (replicate 256 0) (replicate 4096 0)
-zeros-room m h = record {
+pub zeros-room : {m : ℕ} → m ≤ 256 → Room m (replicate 256 0) (replicate 256 0) (replicate 4096 0)
+zeros-room h = record {
   for-starts = omega (arith, length-replicate {A = ℕ} 256 0);
   for-processors = omega (arith, length-replicate {A = ℕ} 256 0);
   for-arrivals = omega (arith, length-replicate {A = ℕ} 4096 0);
@@ -78,9 +69,9 @@ zeros-room m h = record {
 
 -- ---- a refused file: the reader's number is passed on
 
-module _ (file : List ℕ) (x : Reading) (e : x ≡ readingOf (readJob file)) (k n : ℕ) (v : x .verdict ≡ Refused k) (g : n ≡ verdictNumber (x .verdict)) where
+module _ (file : List ℕ) {x : Reading} (e : x ≡ readingOf (readJob file)) {k n : ℕ} (v : x .verdict ≡ Refused k) (g : n ≡ verdictNumber (x .verdict)) where
   file-refused : readJob file ≡ refused n
-  file-refused = refused-is (readJob file) k (ap (λ (r : Reading). r .verdict) (sym e) ∙ v) ∙ ap refused (sym (g ∙ rw v))
+  file-refused = refused-is (readJob file) (ap (λ (r : Reading). r .verdict) (sym e) ∙ v) ∙ ap refused (sym (g ∙ rw v))
 
   pub plan-passes-on : (starts processors scratch : List ℕ) → called (NotPlanned n) starts processors scratch ≡ planCall file starts processors scratch
   unfolding planCall planFor
@@ -100,7 +91,7 @@ module _ (file : List ℕ) (x : Reading) (e : x ≡ readingOf (readJob file)) (k
 
 -- ---- an accepted file
 
-module _ (file : List ℕ) (x : Reading) (m l : ℕ) (K : Read file x m l) where
+module _ {file : List ℕ} {x : Reading} {m l : ℕ} (K : Read file x m l) where
   abbrev I : Instance
   I = instance (K .job)
 
@@ -114,7 +105,7 @@ module _ (file : List ℕ) (x : Reading) (m l : ℕ) (K : Read file x m l) where
   same : H ≡ I
   same = ap instance (K .held)
 
-  module _ (starts processors scratch : List ℕ) where
+  module _ {starts processors scratch : List ℕ} where
     pub plan-no-starts : length starts < m → called (NotPlanned 9) starts processors scratch ≡ planCall file starts processors scratch
     unfolding planCall planFor
     plan-no-starts h = rw (K .says) (simp (tasks-is, lt-ltb _ _ h))
@@ -128,14 +119,14 @@ module _ (file : List ℕ) (x : Reading) (m l : ℕ) (K : Read file x m l) where
     unfolding planCall planFor
     plan-no-scratch a b h = rw (K .says) (simp (tasks-is, le-ltb _ _ a, le-ltb _ _ b, lt-ltb _ _ h))
 
-    pub plan-done : (r : ℕ) (starts′ processors′ cleared scratch′ : List ℕ) → m ≤ length starts → m ≤ length processors → 4096 ≤ length scratch
-        → cleared ≡ filled (λ x. 0) 4096 scratch → Ran H m r starts starts′ processors processors′ cleared scratch′
-        → called (Plan m r) starts′ processors′ scratch′ ≡ planCall file starts processors scratch
-    unfolding planCall planFor planCalled
-    plan-done r starts′ processors′ cleared scratch′ a b c f R =
-        rw (K .says)
-        (simp (tasks-is, le-ltb _ _ a, le-ltb _ _ b, le-ltb _ _ c)
-        (rw (R .end-is, R .starts-are, R .processors-are, R .arrivals-are, f, filled-filled (scratchAt H) (λ x. 0) 4096 scratch c, same)))
+  pub plan-done : {starts processors : List ℕ} (scratch : List ℕ) {r : ℕ} {starts′ processors′ cleared scratch′ : List ℕ} → m ≤ length starts → m ≤ length processors → 4096 ≤ length scratch
+      → cleared ≡ filled (λ x. 0) 4096 scratch → Ran H m r starts starts′ processors processors′ cleared scratch′
+      → called (Plan m r) starts′ processors′ scratch′ ≡ planCall file starts processors scratch
+  unfolding planCall planFor planCalled
+  plan-done scratch a b c f R =
+      rw (K .says)
+      (simp (tasks-is, le-ltb _ _ a, le-ltb _ _ b, le-ltb _ _ c)
+      (rw (R .end-is, R .starts-are, R .processors-are, R .arrivals-are, f, filled-filled (scratchAt H) (λ x. 0) 4096 scratch c, same)))
 
   module _ (starts processors : List ℕ) where
     pub check-no-starts : length starts < m → NotChecked 9 ≡ checkCall file starts processors
@@ -146,7 +137,7 @@ module _ (file : List ℕ) (x : Reading) (m l : ℕ) (K : Read file x m l) where
     unfolding checkCall checkFor
     check-no-processors a h = rw (K .says) (simp (tasks-is, le-ltb _ _ a, lt-ltb _ _ h))
 
-    module _ (t : ℕ) (a : m ≤ length starts) (b : m ≤ length processors) (g : t ≡ numberOf (judged H (λ T. getD processors T 0) (λ T. getD starts T 0))) where
+    module _ {t : ℕ} (a : m ≤ length starts) (b : m ≤ length processors) (g : t ≡ numberOf (judged H (λ T. getD processors T 0) (λ T. getD starts T 0))) where
       says : numberOf (judged I (λ T. getD processors T 0) (λ T. getD starts T 0)) ≡ t
       says = sym (g ∙ ap (λ (J : Instance). numberOf (judged J (λ T. getD processors T 0) (λ T. getD starts T 0))) same)
 
@@ -163,12 +154,12 @@ module _ (file : List ℕ) (x : Reading) (m l : ℕ) (K : Read file x m l) where
     unfolding planBytesCall planBytesFor
     plan-bytes-short h = rw (K .says) (simp (tasks-is, lt-ltb _ _ h))
 
-    pub plan-bytes-done : (r : ℕ) (starts starts′ processors processors′ arrivals arrivals′ plan′ : List ℕ) → 5 * m ≤ length plan
+    pub plan-bytes-done : {r : ℕ} {starts starts′ processors processors′ arrivals arrivals′ plan′ : List ℕ} → 5 * m ≤ length plan
         → Ran H m r starts starts′ processors processors′ arrivals arrivals′
         → plan′ ≡ planBytes m (λ T. getD processors′ T 0) (λ T. getD starts′ T 0) ++ drop (5 * m) plan
         → returned 0 plan′ ≡ planBytesCall file plan
     unfolding planBytesCall planBytesFor
-    plan-bytes-done r starts starts′ processors processors′ arrivals arrivals′ plan′ a R d =
+    plan-bytes-done {r} {starts} {starts′} {processors} {processors′} a R d =
         let e = plan-bytes-same m (λ T. getD processors′ T 0) (processorOf I) (λ T. getD starts′ T 0) (startOf I)
         (λ T h. ap (λ (q : List ℕ). getD q T 0) (R .processors-are) ∙ (filled-at (processorOf H) m processors T h ∙ ap (λ (J : Instance). processorOf J T) same))
         (λ T h. ap (λ (q : List ℕ). getD q T 0) (R .starts-are) ∙ (filled-at (startOf H) m starts T h ∙ ap (λ (J : Instance). startOf J T) same)) in
@@ -178,11 +169,11 @@ module _ (file : List ℕ) (x : Reading) (m l : ℕ) (K : Read file x m l) where
     unfolding checkBytesCall checkBytesFor
     check-bytes-short h = rw (K .says) (simp (tasks-is, lt-ltb _ _ h))
 
-    pub check-bytes-done : (t : ℕ) (starts processors : List ℕ) → 5 * m ≤ length plan
+    pub check-bytes-done : {t : ℕ} (starts processors : List ℕ) → 5 * m ≤ length plan
         → ((T : ℕ) → T < m → (getD starts T 0 ≡ startIn plan T) × (getD processors T 0 ≡ processorIn plan T))
         → t ≡ numberOf (judged H (λ T. getD processors T 0) (λ T. getD starts T 0)) → t ≡ checkBytesCall file plan
     unfolding checkBytesCall checkBytesFor
-    check-bytes-done t starts processors a got g =
+    check-bytes-done starts processors a got g =
         let e = judged-same I (λ T. getD processors T 0) (processorIn plan) (λ T. getD starts T 0) (startIn plan)
         (λ T h. got T (omega (arith, tasks-is)) .1) (λ T h. got T (omega (arith, tasks-is)) .0) in
         rw (K .says) (simp (tasks-is, le-ltb _ _ a)

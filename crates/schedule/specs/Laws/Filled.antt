@@ -55,13 +55,6 @@ filled-more f k l h =
         rw e (getD-set-same (filled f k l) k (f k) 0 (omega (arith, filled-length f k l (omega arith))))
     at i p (inr q) = getD-set-other (filled f k l) k i (f k) 0 (λ e. omega arith) ∙ filled-at f k l i q
 
-pub filled-same : (f g : ℕ → ℕ) (k : ℕ) (l : List ℕ) → ((i : ℕ) → i < k → f i ≡ g i) → filled f k l ≡ filled g k l
-unfolding filled
-filled-same f g k l h =
-    ap (λ (s : List ℕ). s ++ drop k l)
-    (ext-getD 0 (map f (upto k)) (map g (upto k)) (map-upto-length f k ∙ sym (map-upto-length g k))
-    (λ i p. let q : i < k = omega (arith, map-upto-length f k) in map-upto-at f k i 0 q ∙ h i q ∙ sym (map-upto-at g k i 0 q)))
-
 -- filled twice, it holds what it was filled with last
 pub filled-filled : (f g : ℕ → ℕ) (k : ℕ) (l : List ℕ) → k ≤ length l → filled f k (filled g k l) ≡ filled f k l
 filled-filled f g k l h =

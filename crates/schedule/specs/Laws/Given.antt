@@ -1,43 +1,27 @@
 -- What the arrays of an accepted job give: the job's instance as the planner relies on it, and its costs by place. An edge of the job stands in
 -- the arrays at its place, the sources rise from one edge to the next, and past the square of costs every entry is 0.
-use mathlib.Core.Path.{_≡_, refl, sym, ap, _∙_, subst}
+use mathlib.Core.Path.{_≡_, refl, sym, ap, subst}
 use mathlib.Core.Logic.{_⊎_, inl, inr}
-use mathlib.Core.Bool.{Bool, true, false, _&&_}
 use mathlib.Core.List.{List, []}
-use Prim.Native.Nat.{ℕ, zero, suc, _+_, _≤_, _<_}
+use Prim.Native.Nat.{ℕ, zero, suc, _≤_, _<_}
 use native.Mathlib.Omega.{arith}
-use native.Mathlib.Nat.{add-zero, zero-add}
-use lib.Dec.{ltb}
-use lib.ListN.{length, getD, List·getD-eq-default}
+use lib.ListN.{length, getD}
 use Rattle.job.specs.declared.Platform.{Platform}
-use Rattle.job.specs.Number.{pick}
 use Rattle.job.specs.Job.{Edge, Job}
 use Rattle.job.specs.Accepted.{Before, edgeAt}
-use Rattle.job.specs.Write.{values, edgeHeld, heldJob}
+use Rattle.job.specs.Write.{edgeHeld, heldJob}
 use Rattle.job.specs.Laws.Values.{length-values}
 use Rattle.etf.specs.Instance.{Instance, tasks, duration}
-use Rattle.etf.specs.Topology.{cost, square}
+use Rattle.etf.specs.Topology.{cost}
 use Rattle.etf.specs.OfJob.{instance}
 use Rattle.etf.specs.Laws.Tests.{le-or-lt}
-use Rattle.etf.specs.Laws.Costs.{cost-most, square-length, row-length, square-at, square-cost}
+use Rattle.etf.specs.Laws.Costs.{cost-most, row-length, square-most, square-cost}
 use Rattle.etf.specs.Laws.OfJob.{of-job, few, short-tasks}
 use Rattle.schedule.specs.Pass.{InArrays}
+use Rattle.schedule.specs.Laws.Lists.{value-at}
 use Rattle.schedule.specs.Laws.Progress.{Given}
 
--- ---- values by place
-
-value-from : {X : Type 0} (f : ℕ → X) (d : X) (i k t : ℕ) → t < k → getD (values f i k) t d ≡ f (i + t)
-unfolding values
-value-from f d i zero t h = absurd (omega arith)
-value-from f d i (suc k) zero h = ap f (sym (add-zero i))
-value-from f d i (suc k) (suc t) h = let e : suc i + t ≡ i + suc t = omega arith in value-from f d (suc i) k t (omega arith) ∙ ap f e
-
-pub value-at : {X : Type 0} (f : ℕ → X) (d : X) (m t : ℕ) → t < m → getD (values f 0 m) t d ≡ f t
-value-at f d m t h = value-from f d 0 m t h ∙ ap f (zero-add t)
-
--- ---- the instance
-
-module _ (platform : Platform) (m l : ℕ) (durations from to counts : List ℕ) where
+module _ {platform : Platform} {m l : ℕ} {durations from to counts : List ℕ} {costs : List (List ℕ)} (A : InArrays platform m l durations from to counts costs) where
   -- the job, and its instance
   abbrev J : Job
   J = heldJob platform m l durations from to counts
@@ -45,104 +29,81 @@ module _ (platform : Platform) (m l : ℕ) (durations from to counts : List ℕ)
   abbrev I : Instance
   I = instance J
 
-  module _ (costs : List (List ℕ)) (A : InArrays platform m l durations from to counts costs) where
-    pub held-tasks : tasks I ≡ m
-    unfolding instance heldJob
-    held-tasks = length-values (λ t. getD durations t 0) 0 m
+  pub held-tasks : tasks I ≡ m
+  unfolding instance heldJob
+  held-tasks = length-values (λ t. getD durations t 0) 0 m
 
-    pub held-edges : length (I .edges) ≡ l
-    unfolding instance heldJob
-    held-edges = length-values (edgeHeld from to counts) 0 l
+  pub held-processors : I .processors ≡ platform .processors
+  unfolding instance heldJob
+  held-processors = refl
 
-    pub held-processors : I .processors ≡ platform .processors
-    unfolding instance heldJob
-    held-processors = refl
+  -- ---- the edges
 
-    -- ---- the edges
+  held-edges : length (J .edges) ≡ l
+  unfolding heldJob
+  held-edges = length-values (edgeHeld from to counts) 0 l
 
-    job-edges : length (J .edges) ≡ l
-    unfolding heldJob
-    job-edges = length-values (edgeHeld from to counts) 0 l
+  -- edge k of the job is edge k of the arrays
+  edge-is : (k : ℕ) → k < l → edgeAt J k ≡ edgeHeld from to counts k
+  unfolding heldJob
+  edge-is k h = value-at (edgeHeld from to counts) _ l k h
 
-    -- edge k of the job is edge k of the arrays
-    edge-is : (k : ℕ) → k < l → edgeAt J k ≡ edgeHeld from to counts k
-    unfolding heldJob
-    edge-is k h = value-at (edgeHeld from to counts) _ l k h
+  -- what holds of each edge of the job holds of each edge of the arrays
+  each : (P : Edge → Type 0) → ((k : ℕ) → k < length (J .edges) → P (edgeAt J k)) → (k : ℕ) → k < l → P (edgeHeld from to counts k)
+  each P f k h = subst P (edge-is k h) (f k (omega (arith, held-edges)))
 
-    -- what holds of each edge of the job holds of each edge of the arrays
-    each : (P : Edge → Type 0) → ((k : ℕ) → k < length (J .edges) → P (edgeAt J k)) → (k : ℕ) → k < l → P (edgeHeld from to counts k)
-    each P f k h = subst P (edge-is k h) (f k (omega (arith, job-edges)))
+  -- no edge has a lower source than the one before it
+  step : (k : ℕ) → suc k < l → getD from k 0 ≤ getD from (suc k) 0
+  unfolding edgeHeld
+  step k h = go (A .accepted .rising k (omega (arith, held-edges))) (ap (λ e. e .from) (edge-is k (omega arith))) (ap (λ e. e .from) (edge-is (suc k) h))
+    where
+      go : Before (edgeAt J k) (edgeAt J (suc k)) → edgeAt J k .from ≡ getD from k 0 → edgeAt J (suc k) .from ≡ getD from (suc k) 0 → getD from k 0 ≤ getD from (suc k) 0
+      go (inl b) p q = omega arith
+      go (inr b) p q = omega arith
 
-    -- no edge has a lower source than the one before it
-    step : (k : ℕ) → suc k < l → getD from k 0 ≤ getD from (suc k) 0
-    unfolding edgeHeld
-    step k h = go (A .accepted .rising k (omega (arith, job-edges))) (ap (λ e. e .from) (edge-is k (omega arith))) (ap (λ e. e .from) (edge-is (suc k) h))
-      where
-        go : Before (edgeAt J k) (edgeAt J (suc k)) → edgeAt J k .from ≡ getD from k 0 → edgeAt J (suc k) .from ≡ getD from (suc k) 0 → getD from k 0 ≤ getD from (suc k) 0
-        go (inl b) p q = omega arith
-        go (inr b) p q = omega arith
+  climb : (i k : ℕ) → i ≤ k → k < l → getD from i 0 ≤ getD from k 0
+  climb i zero h b = let e : i ≡ 0 = omega arith in rw e (omega arith)
+  climb i (suc k) h b = go (le-or-lt i k) (λ q. climb i k q (omega arith))
+    where
+      go : (i ≤ k) ⊎ (k < i) → (i ≤ k → getD from i 0 ≤ getD from k 0) → getD from i 0 ≤ getD from (suc k) 0
+      go (inl q) r = omega (arith, r q, step k b)
+      go (inr q) r = let e : i ≡ suc k = omega arith in rw e (omega arith)
 
-    climb : (i k : ℕ) → i ≤ k → k < l → getD from i 0 ≤ getD from k 0
-    climb i zero h b = let e : i ≡ 0 = omega arith in rw e (omega arith)
-    climb i (suc k) h b = go (le-or-lt i k) (λ q. climb i k q (omega arith))
-      where
-        go : (i ≤ k) ⊎ (k < i) → (i ≤ k → getD from i 0 ≤ getD from k 0) → getD from i 0 ≤ getD from (suc k) 0
-        go (inl q) r = omega (arith, r q, step k b)
-        go (inr q) r = let e : i ≡ suc k = omega arith in rw e (omega arith)
+  pub given : Given I l durations from to counts
+  unfolding instance heldJob edgeHeld duration
+  given = record {
+    well = of-job J (A .accepted);
+    by-number = refl;
+    few-processors = A .accepted .few-processors;
+    few-tasks = few J (A .accepted);
+    few-edges = omega (arith, held-edges, A .accepted .few-edges);
+    listed = refl;
+    timed = λ T h. sym (value-at (λ t. getD durations t 0) 0 m T (omega (arith, held-tasks)));
+    short = short-tasks J (A .accepted);
+    rising = climb;
+    within = λ k h. (
+      omega (arith, each (λ e. e .from < e .to) (A .accepted .forward) k h),
+      omega (arith, each (λ e. e .to < length (J .tasks)) (A .accepted .within) k h),
+    );
+    few-messages = each (λ e. e .count ≤ 1000) (A .accepted .few-messages);
+  }
 
-    pub given : Given I l durations from to counts
-    unfolding instance heldJob edgeHeld duration
-    given = record {
-      well = of-job J (A .accepted);
-      by-number = refl;
-      few-processors = A .accepted .few-processors;
-      few-tasks = few J (A .accepted);
-      few-edges = omega (arith, job-edges, A .accepted .few-edges);
-      listed = refl;
-      timed = λ T h. sym (value-at (λ t. getD durations t 0) 0 m T (omega (arith, held-tasks)));
-      short = short-tasks J (A .accepted);
-      rising = climb;
-      within = λ k h. (
-        omega (arith, each (λ e. e .from < e .to) (A .accepted .forward) k h),
-        omega (arith, each (λ e. e .to < length (J .tasks)) (A .accepted .within) k h),
-      );
-      few-messages = each (λ e. e .count ≤ 1000) (A .accepted .few-messages);
-      near = λ p q. cost-most platform p q (A .accepted .few-processors) (A .accepted .small-unit);
-    }
+  -- ---- the costs
 
-    -- ---- the costs
+  few-here : platform .processors ≤ 16
+  unfolding heldJob
+  few-here = A .accepted .few-processors
 
-    few-here : platform .processors ≤ 16
-    unfolding heldJob
-    few-here = A .accepted .few-processors
+  small-here : platform .unit ≤ 100
+  unfolding heldJob
+  small-here = A .accepted .small-unit
 
-    small-here : platform .unit ≤ 100
-    unfolding heldJob
-    small-here = A .accepted .small-unit
+  pub row-size : (p : ℕ) → p < 16 → length (getD costs p []) ≡ 16
+  row-size p h = rw (A .costs-are) (row-length (platform .processors) (cost platform) p h)
 
-    row-of : (p : ℕ) → getD costs p [] ≡ getD (square (platform .processors) (cost platform)) p []
-    row-of p = rw (A .costs-are)
+  pub cost-at : (p q : ℕ) → p < I .processors → q < I .processors → getD (getD costs p []) q 0 ≡ I .cost p q
+  unfolding instance heldJob
+  cost-at p q h k = rw (A .costs-are) (square-cost (platform .processors) (cost platform) p q few-here h k)
 
-    pub row-size : (p : ℕ) → p < 16 → length (getD costs p []) ≡ 16
-    row-size p h = rw (row-of p) (row-length (platform .processors) (cost platform) p h)
-
-    pub cost-at : (p q : ℕ) → p < I .processors → q < I .processors → getD (getD costs p []) q 0 ≡ I .cost p q
-    unfolding instance heldJob
-    cost-at p q h k = rw (row-of p) (square-cost (platform .processors) (cost platform) p q few-here h k)
-
-    pub cost-small : (p q : ℕ) → getD (getD costs p []) q 0 ≤ 800
-    cost-small p q = go (le-or-lt 16 p) (le-or-lt 16 q)
-      where
-        -- the entry as the square is made
-        entry : (b : Bool) → getD (getD costs p []) q 0 ≡ pick b (cost platform p q) 0 → getD (getD costs p []) q 0 ≤ 800
-        entry true e = omega (arith, cost-most platform p q few-here small-here)
-        entry false e = omega arith
-
-        go : (16 ≤ p) ⊎ (p < 16) → (16 ≤ q) ⊎ (q < 16) → getD (getD costs p []) q 0 ≤ 800
-        go (inl h) k =
-            let e : getD costs p [] ≡ [] =
-            row-of p ∙ List·getD-eq-default (square (platform .processors) (cost platform)) [] {n = p} (omega (arith, square-length (platform .processors) (cost platform))) in
-            rw e (omega arith)
-        go (inr h) (inl k) = omega (arith, List·getD-eq-default (getD costs p []) 0 {n = q} (omega (arith, row-size p h)))
-        go (inr h) (inr k) =
-            entry (ltb p (platform .processors) && ltb q (platform .processors)) (rw (row-of p) (square-at (platform .processors) (cost platform) p q h k))
+  pub cost-small : (p q : ℕ) → getD (getD costs p []) q 0 ≤ 800
+  cost-small p q = rw (A .costs-are) (square-most (platform .processors) (cost platform) 800 (λ x y. cost-most platform x y few-here small-here) p q)

@@ -10,16 +10,15 @@ use lib.Dec.{T as Holds}
 use lib.ListN.{length, getD, set, length-set}
 use Rattle.job.specs.Write.{values, heldJob}
 use Rattle.job.specs.declared.Platform.{Platform}
-use Rattle.etf.specs.Lists.{_∈_, here, filter, upto}
+use Rattle.etf.specs.Lists.{_∈_, here}
 use Rattle.etf.specs.Instance.{Instance, tasks, duration}
 use Rattle.etf.specs.Schedule.{Placement, placed, finish, arrival}
 use Rattle.etf.specs.Rule.{State, begin, run, round, complete, choice, nextMoment, ready}
 use Rattle.etf.specs.OfJob.{instance}
 use Rattle.etf.specs.Jobs.{no-finish-passes-after}
-use Rattle.etf.specs.Laws.Tests.{either, not-both, fails, first, le-or-lt}
-use Rattle.etf.specs.Laws.Lists.{upto-of, filter-of}
+use Rattle.etf.specs.Laws.Tests.{not-both, fails, le-or-lt}
 use Rattle.etf.specs.Laws.Sums.{sum, one-if}
-use Rattle.etf.specs.Laws.Turn.{Ready, ready-of, Put, Tick}
+use Rattle.etf.specs.Laws.Turn.{ready-of, Put}
 use Rattle.etf.specs.Laws.Rounds.{enough-rounds, run-last}
 use Rattle.etf.specs.Laws.Sound.{Sound, Opened, sound-start, sound-run}
 use Rattle.etf.specs.Laws.Times.{clock-after, arrival-after}
@@ -27,13 +26,14 @@ use Rattle.etf.specs.Laws.OfJob.{few, short-tasks, near-processors, of-job}
 use Rattle.schedule.specs.declared.planner.Pair.{Pair}
 use Rattle.schedule.specs.declared.planner.Choice.{Choice}
 use Rattle.schedule.specs.Pass.{Runs, soonest, freeAmong, Looked, rowOf, noPair, searched, never, sentTo, Sent, placedMark, Skipped, Placed, InArrays, Room, Ran, edgesTo}
-use Rattle.schedule.specs.Laws.Progress.{Given, Progress, Untouched, state}
-use Rattle.schedule.specs.Laws.Given.{given, held-tasks, held-processors, row-size, cost-at, cost-small}
-use Rattle.schedule.specs.Laws.Look.{neverOr, free-list, next-of, ready-is, arrival-is, incomplete-is, value-in}
-use Rattle.schedule.specs.Laws.Search.{pairOf, search-is, choice-most}
+use Rattle.schedule.specs.Laws.Progress.{state, neverOr, pairOf, Given, Progress, Untouched}
+use Rattle.schedule.specs.Laws.Given.{given, held-tasks, held-processors, cost-at}
+use Rattle.schedule.specs.Laws.Look.{free-list, next-of, ready-is, arrival-is, incomplete-is}
+use Rattle.schedule.specs.Laws.Search.{search-is, choice-most}
 use Rattle.schedule.specs.Laws.Turned.{placing, moving}
-use Rattle.schedule.specs.Laws.Placed.{last-most, first-last, enough, progress}
-use Rattle.schedule.specs.Laws.Finished.{progress-start, progress-tick, untouched-start, untouched-put, finished}
+use Rattle.schedule.specs.Laws.Edges.{firstEdge, lastEdge, last-most, first-last}
+use Rattle.schedule.specs.Laws.Placed.{enough, progress, untouched-put}
+use Rattle.schedule.specs.Laws.Finished.{progress-start, progress-tick, untouched-start, finished}
 
 -- the instance that is planned, m tasks on n processors, and its arrays; no time of any round passes these bounds
 pub record Setting (I : Instance) (m n l : ℕ) (durations from to counts : List ℕ) (costs : List (List ℕ)) : Type 0 where
@@ -45,16 +45,16 @@ pub record Setting (I : Instance) (m n l : ℕ) (durations from to counts : List
   pub finishes : (k : ℕ) (u : Placement) → u ∈ run I k begin .placements → finish I u ≤ 460000000
   pub arrivals : (k T P : ℕ) → Opened I (run I k begin .placements) T → P < I .processors → arrival I (run I k begin .placements) T P ≤ 460800000
 
-pub setting : (platform : Platform) (m n l : ℕ) (durations from to counts : List ℕ) (costs : List (List ℕ)) → platform .processors ≡ n
-    → InArrays platform m l durations from to counts costs → Setting (instance (heldJob platform m l durations from to counts)) m n l durations from to counts costs
-setting platform m n l durations from to counts costs e A =
+pub setting : {platform : Platform} {m l : ℕ} {durations from to counts : List ℕ} {costs : List (List ℕ)} → InArrays platform m l durations from to counts costs
+    → {n : ℕ} → platform .processors ≡ n → Setting (instance (heldJob platform m l durations from to counts)) m n l durations from to counts costs
+setting {platform} {m} {l} {durations} {from} {to} {counts} A e =
     let j = heldJob platform m l durations from to counts in
     let a = A .accepted in
     record {
-      arrays = given platform m l durations from to counts costs A;
-      tasks-are = held-tasks platform m l durations from to counts costs A;
-      processors-are = held-processors platform m l durations from to counts costs A ∙ e;
-      cost-is = cost-at platform m l durations from to counts costs A;
+      arrays = given A;
+      tasks-are = held-tasks A;
+      processors-are = held-processors A ∙ e;
+      cost-is = cost-at A;
       clocks = λ k. omega (arith, clock-after (instance j) (of-job j a) 1000000 800000 (short-tasks j a) (near-processors j a) k, few j a);
       finishes = no-finish-passes-after j a;
       arrivals = λ k T P o p. omega (arith, arrival-after (instance j) (of-job j a) 1000000 800000 (short-tasks j a) (near-processors j a) k T P o p, few j a);
@@ -72,28 +72,28 @@ pub record Going (I : Instance) (l : ℕ) (from to counts starts₀ processors�
   pub latest-size : length latest ≡ 256
   pub busy-size : length busy ≡ 16
 
-module _ (I : Instance) (m n l : ℕ) (durations from to counts : List ℕ) (costs : List (List ℕ)) (X : Setting I m n l durations from to counts costs)
-    (starts₀ processors₀ arrivals₀ : List ℕ) (R : Room m starts₀ processors₀ arrivals₀) where
+module _ {I : Instance} {m n l : ℕ} {durations from to counts : List ℕ} {costs : List (List ℕ)} (X : Setting I m n l durations from to counts costs)
+    {starts₀ processors₀ arrivals₀ : List ℕ} (R : Room m starts₀ processors₀ arrivals₀) where
   room : Room (tasks I) starts₀ processors₀ arrivals₀
   room = subst (λ k. Room k starts₀ processors₀ arrivals₀) (sym (X .tasks-are)) R
 
   -- before the first round
-  pub going-start : (waiting latest busy : List ℕ) → length waiting ≡ 256 → ((T : ℕ) → T < 256 → getD waiting T 0 ≡ edgesTo to l T)
+  pub going-start : {waiting latest busy : List ℕ} → length waiting ≡ 256 → ((T : ℕ) → T < 256 → getD waiting T 0 ≡ edgesTo to l T)
       → length latest ≡ 256 → ((T : ℕ) → getD latest T 0 ≡ 0) → length busy ≡ 16 → ((P : ℕ) → getD busy P 0 ≡ 0)
       → Going I l from to counts starts₀ processors₀ arrivals₀ starts₀ processors₀ arrivals₀ waiting latest busy 0 0 0 0
   unfolding run
-  going-start waiting latest busy sw w sl zl sb zb = record {
+  going-start waiting-size waiting-all latest-size latest-none busy-size busy-none = record {
     placements = [];
     ran = refl;
     few-rounds = omega arith;
-    in-step = progress-start I l durations from to counts (X .arrays) starts₀ processors₀ arrivals₀ waiting latest busy (R .zeros) w zl zb;
-    untouched = untouched-start I starts₀ processors₀ arrivals₀;
-    waiting-size = sw;
-    latest-size = sl;
-    busy-size = sb;
+    in-step = progress-start (X .arrays) (R .zeros) waiting-all latest-none busy-none;
+    untouched = untouched-start;
+    waiting-size = waiting-size;
+    latest-size = latest-size;
+    busy-size = busy-size;
   }
 
-  module _ (starts processors arrivals waiting latest busy : List ℕ) (clock e low rounds : ℕ)
+  module _ {starts processors arrivals waiting latest busy : List ℕ} {clock e low rounds : ℕ}
       (Y : Going I l from to counts starts₀ processors₀ arrivals₀ starts processors arrivals waiting latest busy clock e low rounds) where
     abbrev ps : List Placement
     ps = Y .placements
@@ -105,13 +105,11 @@ module _ (I : Instance) (m n l : ℕ) (durations from to counts : List ℕ) (cos
     pub going-done : m ≤ low → Ran I m e starts₀ starts processors₀ processors arrivals₀ arrivals
     going-done h =
         subst (λ k. Ran I k e starts₀ starts processors₀ processors arrivals₀ arrivals) (X .tasks-are)
-        (finished I l durations from to counts (X .arrays) clock ps starts processors arrivals waiting latest busy low e (Y .in-step) sound rounds (Y .few-rounds) (Y .ran)
-        (omega (arith, X .tasks-are, Y .in-step .low-most)) starts₀ processors₀ arrivals₀ room (Y .untouched))
+        (finished (Y .in-step) (X .arrays) sound (Y .few-rounds) (Y .ran) (omega (arith, X .tasks-are, Y .in-step .low-most)) room (Y .untouched))
 
     module _ (more : low < m) where
       incomplete : Holds (not (complete I ps))
-      incomplete =
-          incomplete-is I l durations from to counts (X .arrays) clock ps sound starts processors arrivals waiting latest busy low e (Y .in-step) (omega (arith, X .tasks-are))
+      incomplete = incomplete-is (Y .in-step) (omega (arith, X .tasks-are))
 
       finish-by : (u : Placement) → u ∈ ps → finish I u ≤ 460000000
       finish-by u h = X .finishes rounds u (subst (λ (st : State). u ∈ st .placements) (sym (Y .ran)) h)
@@ -153,7 +151,7 @@ module _ (I : Instance) (m n l : ℕ) (durations from to counts : List ℕ) (cos
             X .arrivals rounds T P (subst (λ (st : State). Opened I (st .placements) T) (sym (Y .ran)) (opened-of T b r)) p,
           )
 
-      module _ (r : Choice) (F : Looked clock low m n busy waiting latest arrivals r) where
+      module _ {r : Choice} (F : Looked clock low m n busy waiting latest arrivals r) where
         abbrev pair : Pair
         pair = r .pair
 
@@ -161,19 +159,14 @@ module _ (I : Instance) (m n l : ℕ) (durations from to counts : List ℕ) (cos
         free-are = F .listed ∙ ap (freeAmong busy clock) (sym (X .processors-are))
 
         next-is : r .next ≡ neverOr (nextMoment I clock ps)
-        next-is =
-            F .next ∙ (ap (soonest busy clock) (sym (X .processors-are))
-            ∙ next-of I l durations from to counts (X .arrays) clock ps sound starts processors arrivals waiting latest busy low e (Y .in-step) finish-by)
+        next-is = F .next ∙ (ap (soonest busy clock) (sym (X .processors-are)) ∙ next-of (Y .in-step) sound finish-by)
 
         -- the pair that the search found
         choice-is : pair ≡ pairOf (choice I clock ps)
         choice-is =
             F .found ∙ (ap (λ (k : ℕ). searched clock waiting latest (rowOf clock arrivals (F .free) (F .count)) low (k - low) noPair) (sym (X .tasks-are))
-            ∙ search-is I clock ps waiting latest arrivals (F .free) (F .count) low (X .arrays .by-number) (Y .in-step .low-most) not-ready
-            (ready-is I l durations from to counts (X .arrays) clock ps sound starts processors arrivals waiting latest busy low e (Y .in-step))
-            (free-are ∙ free-list I l durations from to counts (X .arrays) clock ps sound starts processors arrivals waiting latest busy low e (Y .in-step))
-            (λ T P b h p. arrival-is I l durations from to counts (X .arrays) clock ps sound starts processors arrivals waiting latest busy low e (Y .in-step) T P b p (opened-of T b h))
-            start-small)
+            ∙ search-is I clock ps (X .arrays .by-number) start-small waiting latest arrivals (F .free) (F .count) low (Y .in-step .low-most) not-ready
+            (ready-is (Y .in-step) (X .arrays)) (free-are ∙ free-list (Y .in-step)) (λ T P b h p. arrival-is (Y .in-step) (X .arrays) T P b p (opened-of T b h)))
           where
             not-ready : (T : ℕ) → T < low → Holds (not (ready I clock ps T))
             not-ready T h =
@@ -190,7 +183,7 @@ module _ (I : Instance) (m n l : ℕ) (durations from to counts : List ℕ) (cos
               placements = ps;
               ran = next-run ∙ (t .0 ∙ ap (λ (x : ℕ). state x ps) (sym next-is));
               few-rounds = omega (arith, more-rounds, X .tasks-are);
-              in-step = progress-tick I l durations from to counts (X .arrays) clock ps starts processors arrivals waiting latest busy low e (Y .in-step) (r .next) (omega (arith, t .1 .ahead, next-is));
+              in-step = progress-tick (Y .in-step) (r .next) (omega (arith, t .1 .ahead, next-is));
               untouched = Y .untouched;
               waiting-size = Y .waiting-size;
               latest-size = Y .latest-size;
@@ -227,58 +220,49 @@ module _ (I : Instance) (m n l : ℕ) (durations from to counts : List ℕ) (cos
           pub finish-small : pair .start + getD durations (pair .task) 0 ≤ 460000000
           finish-small = omega (arith, timed, X .finishes (rounds + 1) u (subst (λ (st : State). u ∈ st .placements) (sym ran-on) (here refl)))
 
-          module _ (runs : List ℕ) (E : Runs from m l runs) where
+          module _ {runs : List ℕ} (E : Runs from m l runs) where
+            abbrev first : ℕ
+            first = firstEdge runs (pair .task)
+
+            abbrev last : ℕ
+            last = lastEdge runs (pair .task)
+
+            pub run-rises : first ≤ last
+            run-rises = first-last E (pair .task) task-below
+
+            pub run-within : last ≤ l
+            run-within = last-most E (pair .task) task-below
+
             runs-are : Runs from (tasks I) l runs
             runs-are = subst (λ (k : ℕ). Runs from k l runs) (sym (X .tasks-are)) E
 
-            abbrev firstEdge : ℕ
-            firstEdge = getD runs (pair .task) 0
+            pub enough-waiting : (T : ℕ) → sum last (λ k. one-if (sentTo to first T k)) ≤ getD (set waiting (pair .task) placedMark) T 0
+            enough-waiting T = enough put-is runs-are to sound (X .arrays) waiting T (Y .in-step .waiting-open T)
 
-            abbrev lastEdge : ℕ
-            lastEdge = getD runs (pair .task + 1) 0
+            module _ {f : ℕ} (f-is : f ≡ pair .start + getD durations (pair .task) 0)
+                {starts′ processors′ arrivals′ waiting′ latest′ busy′ : List ℕ} {low′ : ℕ}
+                (B : Placed pair f first last low m n (getD costs (pair .processor) []) to counts starts starts′ processors processors′ arrivals arrivals′ waiting waiting′ latest latest′ busy busy′ low′) where
+              finish-is : f ≡ finish I u
+              finish-is = f-is ∙ ap (λ (x : ℕ). pair .start + x) timed
 
-            pub run-rises : firstEdge ≤ lastEdge
-            run-rises = first-last I l durations from to counts (X .arrays) clock ps sound u put-is runs runs-are
+              sent : Sent first last (finish I u) (I .processors) (getD costs (pair .processor) []) to counts arrivals arrivals′ (set waiting (pair .task) placedMark) waiting′ latest latest′
+              sent = rw (finish-is, ← X .processors-are) at (B .sent)
 
-            pub run-within : lastEdge ≤ l
-            run-within = last-most I l durations from to counts (X .arrays) clock ps sound u put-is runs runs-are
-
-            pub enough-waiting : (T : ℕ) → sum lastEdge (λ k. one-if (sentTo to firstEdge T k)) ≤ getD (set waiting (pair .task) placedMark) T 0
-            enough-waiting T =
-                enough I l durations from to counts (X .arrays) clock ps sound u put-is runs runs-are waiting T (Y .in-step .waiting-open T)
-
-            pub going-placed : (f : ℕ) → f ≡ pair .start + getD durations (pair .task) 0
-                → (starts′ processors′ arrivals′ waiting′ latest′ busy′ : List ℕ) (low′ e′ : ℕ)
-                → Placed pair f firstEdge lastEdge low m n (getD costs (pair .processor) []) to counts starts starts′ processors processors′ arrivals arrivals′ waiting waiting′ latest latest′ busy busy′ low′
-                → length arrivals′ ≡ length arrivals → length waiting′ ≡ length waiting → length latest′ ≡ length latest → e′ ≡ max e f
-                → Going I l from to counts starts₀ processors₀ arrivals₀ starts′ processors′ arrivals′ waiting′ latest′ busy′ clock e′ low′ (rounds + 1)
-            going-placed f fe starts′ processors′ arrivals′ waiting′ latest′ busy′ low′ e′ B sa sw sl ee = record {
-              placements = u ∷ ps;
-              ran = ran-on;
-              few-rounds = omega (arith, more-rounds, X .tasks-are);
-              in-step = rw (B .starts-are, B .processors-are, B .busy-are, ee, fin)
-                  (progress I l durations from to counts (X .arrays) clock ps sound u put-is runs runs-are starts processors arrivals waiting latest busy low e (Y .in-step)
-                  row arrivals′ waiting′ latest′ low′ (λ P p. X .cost-is (pair .processor) P (put-is .processor-below) p)
-                  (omega (arith, task-below, R .for-starts, Y .untouched .starts-size)) (omega (arith, task-below, R .for-processors, Y .untouched .processors-size))
-                  (omega (arith, task-below, few-tasks, Y .waiting-size)) (omega (arith, processor-below, Y .busy-size)) sent
-                  (subst (λ (k : ℕ). Skipped waiting′ low k low′) (sym (X .tasks-are)) (B .skipped)));
-              untouched = rw (B .starts-are, B .processors-are)
-                  (untouched-put I starts₀ processors₀ arrivals₀ starts processors arrivals (Y .untouched) (pair .task) (pair .start) (pair .processor) firstEdge lastEdge (finish I u) row to counts
-                  arrivals′ (set waiting (pair .task) placedMark) waiting′ latest latest′ (put-is .task-ready .below)
-                  (λ k q. X .arrays .within k (omega (arith, run-within)) .1) sa sent);
-              waiting-size = sw ∙ Y .waiting-size;
-              latest-size = sl ∙ Y .latest-size;
-              busy-size = ap length (B .busy-are) ∙ (length-set busy (pair .processor) f ∙ Y .busy-size);
-            }
-              where
-                row : List ℕ
-                row = getD costs (pair .processor) []
-
-                fin : f ≡ finish I u
-                fin = fe ∙ ap (λ (x : ℕ). pair .start + x) timed
-
-                sent : Sent firstEdge lastEdge (finish I u) (I .processors) (getD costs (pair .processor) []) to counts arrivals arrivals′ (set waiting (pair .task) placedMark) waiting′ latest latest′
-                sent =
-                    subst (λ (x : ℕ). Sent firstEdge lastEdge x (I .processors) (getD costs (pair .processor) []) to counts arrivals arrivals′ (set waiting (pair .task) placedMark) waiting′ latest latest′) fin
-                    (subst (λ (k : ℕ). Sent firstEdge lastEdge f k (getD costs (pair .processor) []) to counts arrivals arrivals′ (set waiting (pair .task) placedMark) waiting′ latest latest′) (sym (X .processors-are))
-                    (B .sent))
+              pub going-placed : {e′ : ℕ} → e′ ≡ max e f → length arrivals′ ≡ length arrivals → length waiting′ ≡ length waiting → length latest′ ≡ length latest
+                  → Going I l from to counts starts₀ processors₀ arrivals₀ starts′ processors′ arrivals′ waiting′ latest′ busy′ clock e′ low′ (rounds + 1)
+              going-placed e-is same-arrivals same-waiting same-latest = record {
+                placements = u ∷ ps;
+                ran = ran-on;
+                few-rounds = omega (arith, more-rounds, X .tasks-are);
+                in-step = rw (B .starts-are, B .processors-are, B .busy-are, e-is, finish-is)
+                    (progress put-is runs-are to sound (X .arrays) (Y .in-step) (λ P p. X .cost-is (pair .processor) P (put-is .processor-below) p)
+                    (omega (arith, task-below, R .for-starts, Y .untouched .starts-size)) (omega (arith, task-below, R .for-processors, Y .untouched .processors-size))
+                    (omega (arith, task-below, few-tasks, Y .waiting-size)) (omega (arith, processor-below, Y .busy-size)) sent
+                    (subst (λ (k : ℕ). Skipped waiting′ low k low′) (sym (X .tasks-are)) (B .skipped)));
+                untouched = rw (B .starts-are, B .processors-are)
+                    (untouched-put (Y .untouched) sent (λ k q. X .arrays .within k (omega (arith, run-within)) .1)
+                    (pair .task) (pair .start) (pair .processor) (put-is .task-ready .below) same-arrivals);
+                waiting-size = same-waiting ∙ Y .waiting-size;
+                latest-size = same-latest ∙ Y .latest-size;
+                busy-size = ap length (B .busy-are) ∙ (length-set busy (pair .processor) f ∙ Y .busy-size);
+              }

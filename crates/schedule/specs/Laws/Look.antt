@@ -2,12 +2,11 @@
 -- Two tests are the same where each gives the other, two numbers where what is below the one is below the other; an edge into a task stands at a place of the arrays.
 use mathlib.Core.Path.{_≡_, refl, sym, ap, _∙_, subst}
 use mathlib.Core.Logic.{_⊎_, inl, inr}
-use mathlib.Core.Bool.{Bool, true, false, not, _&&_}
-use mathlib.Core.Option.{Option, none, some}
-use mathlib.Core.List.{List, [], _∷_}
+use mathlib.Core.Bool.{Bool, true, false, not}
+use mathlib.Core.Option.{Option}
+use mathlib.Core.List.{List}
 use Prim.Native.Nat.{ℕ, zero, suc, _+_, _*_, _≤_, _<_, min}
 use native.Mathlib.Omega.{arith}
-use native.Mathlib.Nat.{add-zero, zero-add}
 use lib.Dec.{leb, eqb, leb→le, le→leb, nleb→lt, eqb→eq}
 use lib.Dec.{T as Holds}
 use lib.ListN.{getD}
@@ -15,32 +14,23 @@ use Rattle.job.specs.Number.{pick}
 use Rattle.job.specs.Job.{Edge}
 use Rattle.job.specs.Write.{values, edgeHeld}
 use Rattle.job.specs.Laws.Values.{length-values}
-use Rattle.etf.specs.Lists.{_∈_, here, there, upto, filter}
+use Rattle.etf.specs.Lists.{_∈_, upto, filter}
 use Rattle.etf.specs.Instance.{Instance, tasks, into}
 use Rattle.etf.specs.Schedule.{Placement, placed, placementOf, finish, reach, arrival}
 use Rattle.etf.specs.Rule.{nextMoment, free, ready, complete}
-use Rattle.etf.specs.Laws.Tests.{either, not-both, fails, both, first, second, pick-yes, eq→eqb, le-or-lt}
-use Rattle.etf.specs.Laws.Lists.{all-of, all-at, upto-in, upto-of, place}
-use Rattle.etf.specs.Laws.Sums.{sum, one-if-yes, one-if-no, sum-ge}
+use Rattle.etf.specs.Laws.Tests.{either, not-both, fails, both, first, second, pick-yes, same-test, eq→eqb, le-or-lt}
+use Rattle.etf.specs.Laws.Lists.{all-of, all-at, filter-same, upto-in, upto-of, place}
+use Rattle.etf.specs.Laws.Sums.{one-if-yes, one-if-no, sum-ge}
 use Rattle.etf.specs.Laws.Placements.{into-of, into-in, arrival-ge, arrival-at}
 use Rattle.etf.specs.Laws.Turn.{free-of, taken-by, Ready, ready-of, ready-in, Next, endless, at, next-is}
 use Rattle.etf.specs.Laws.Sound.{Sound, Opened}
 use Rattle.schedule.specs.Pass.{most, never, soonest, freeAmong, canStart}
-use Rattle.schedule.specs.Laws.Most.{most-ge, most-at}
-use Rattle.schedule.specs.Laws.Progress.{Given, Progress, reached, finishedBy, awaited}
-use Rattle.schedule.specs.Laws.Given.{value-at}
-
--- ---- tests, lists and sums
-
--- tests that give each other are the same
-pub same-test : (a b : Bool) → (Holds a → Holds b) → (Holds b → Holds a) → a ≡ b
-same-test true true f g = refl
-same-test true false f g = absurd (f tt)
-same-test false true f g = absurd (g tt)
-same-test false false f g = refl
+use Rattle.schedule.specs.Laws.Lists.{value-at, value-in}
+use Rattle.schedule.specs.Laws.Most.{most-ge, most-at, sum-none}
+use Rattle.schedule.specs.Laws.Progress.{neverOr, Given, Progress, sends, awaits, reached, finishedBy, awaited}
 
 -- numbers are the same where what is below the one is below the other
-pub same-number : (x y : ℕ) → ((t : ℕ) → t < x → t < y) → ((t : ℕ) → t < y → t < x) → x ≡ y
+same-number : (x y : ℕ) → ((t : ℕ) → t < x → t < y) → ((t : ℕ) → t < y → t < x) → x ≡ y
 same-number x y f g = go (le-or-lt x y) (le-or-lt y x)
   where
     go : (x ≤ y) ⊎ (y < x) → (y ≤ x) ⊎ (x < y) → x ≡ y
@@ -53,35 +43,7 @@ pick-over : (b : Bool) (x t : ℕ) → t < pick b x 0 → Holds b × (t < x)
 pick-over true x t h = (tt, h)
 pick-over false x t h = absurd (omega arith)
 
--- tests that agree on each member take the same members
-filter-same : {X : Type 0} (p q : X → Bool) (xs : List X) → ((x : X) → x ∈ xs → p x ≡ q x) → filter p xs ≡ filter q xs
-unfolding filter
-filter-same p q [] h = refl
-filter-same p q (x ∷ xs) h = rw (h x (here refl), filter-same p q xs (λ a k. h a (there k)))
-
--- each value is a member of the values
-value-from-in : {X : Type 0} (f : ℕ → X) (i k t : ℕ) → t < k → f (i + t) ∈ values f i k
-unfolding values
-value-from-in f i zero t h = absurd (omega arith)
-value-from-in f i (suc k) zero h = here (ap f (add-zero i))
-value-from-in f i (suc k) (suc t) h =
-    let e : suc i + t ≡ i + suc t = omega arith in
-    there (subst (λ (n : ℕ). f n ∈ values f (suc i) k) e (value-from-in f (suc i) k t (omega arith)))
-
-pub value-in : {X : Type 0} (f : ℕ → X) (k t : ℕ) → t < k → f t ∈ values f 0 k
-value-in f k t h = subst (λ (n : ℕ). f n ∈ values f 0 k) (zero-add t) (value-from-in f 0 k t h)
-
--- a sum of zeros
-sum-none : (n : ℕ) (f : ℕ → ℕ) → ((i : ℕ) → i < n → f i ≡ 0) → sum n f ≡ 0
-unfolding sum
-sum-none zero f h = refl
-sum-none (suc n) f h = omega (arith, h n (omega arith), sum-none n f (λ i k. h i (omega arith)))
-
 -- ---- the soonest finish
-
-abbrev pub neverOr : Option ℕ → ℕ
-neverOr none = never
-neverOr (some x) = x
 
 module _ (busy : List ℕ) (clock : ℕ) where
   -- it is at most each finish after the clock
@@ -118,29 +80,22 @@ module _ (busy : List ℕ) (clock : ℕ) where
 -- ---- edges by place
 
 module _ (from to : List ℕ) (ps : List Placement) (T k : ℕ) where
-  -- edge k goes to task T, from a task that is placed, or from one that is not
-  abbrev sends : Bool
-  sends = placed ps (getD from k 0) && eqb (getD to k 0) T
-
-  abbrev awaits : Bool
-  awaits = eqb (getD to k 0) T && not (placed ps (getD from k 0))
-
-  sends-in : Holds (placed ps (getD from k 0)) → getD to k 0 ≡ T → Holds sends
+  sends-in : Holds (placed ps (getD from k 0)) → getD to k 0 ≡ T → Holds (sends from to ps T k)
   sends-in p q = both (placed ps (getD from k 0)) (eqb (getD to k 0) T) p (eq→eqb (getD to k 0) T q)
 
-  sends-to : Holds sends → getD to k 0 ≡ T
+  sends-to : Holds (sends from to ps T k) → getD to k 0 ≡ T
   sends-to h = eqb→eq (getD to k 0) T (second (placed ps (getD from k 0)) (eqb (getD to k 0) T) h)
 
-  awaits-in : getD to k 0 ≡ T → Holds (not (placed ps (getD from k 0))) → Holds awaits
+  awaits-in : getD to k 0 ≡ T → Holds (not (placed ps (getD from k 0))) → Holds (awaits from to ps T k)
   awaits-in q p = both (eqb (getD to k 0) T) (not (placed ps (getD from k 0))) (eq→eqb (getD to k 0) T q) p
 
-  awaits-of : Holds awaits → (getD to k 0 ≡ T) × Holds (not (placed ps (getD from k 0)))
+  awaits-of : Holds (awaits from to ps T k) → (getD to k 0 ≡ T) × Holds (not (placed ps (getD from k 0)))
   awaits-of h = (
     eqb→eq (getD to k 0) T (first (eqb (getD to k 0) T) (not (placed ps (getD from k 0))) h),
     second (eqb (getD to k 0) T) (not (placed ps (getD from k 0))) h,
   )
 
-module _ (I : Instance) (l : ℕ) (durations from to counts : List ℕ) (G : Given I l durations from to counts) where
+module _ {I : Instance} {l : ℕ} {durations from to counts : List ℕ} (G : Given I l durations from to counts) where
   -- an edge into task T stands at a place
   edge-place : (T : ℕ) (d : Edge) → d ∈ into I T → (k : ℕ) × (k < l) × (edgeHeld from to counts k ≡ d) × (getD to k 0 ≡ T)
   unfolding edgeHeld
@@ -152,33 +107,53 @@ module _ (I : Instance) (l : ℕ) (durations from to counts : List ℕ) (G : Giv
       (z .0, b, q, ap (λ (a : Edge). a .to) q ∙ w .1)
 
   -- and the edge at a place goes into its task
-  edge-into : (T k : ℕ) → k < l → getD to k 0 ≡ T → edgeHeld from to counts k ∈ into I T
+  pub edge-into : (T k : ℕ) → k < l → getD to k 0 ≡ T → edgeHeld from to counts k ∈ into I T
   unfolding edgeHeld
   edge-into T k h e = into-in I T (edgeHeld from to counts k) (rw (G .listed) (value-in (edgeHeld from to counts) l k h)) e
 
-  module _ (cm : ℕ) (ps : List Placement) (S : Sound I cm ps) (starts processors arrivals waiting latest busy : List ℕ) (low e : ℕ)
-      (Q : Progress I l from to counts cm ps starts processors arrivals waiting latest busy low e) where
-    -- ---- free processors and the next moment
+module _ {I : Instance} {l : ℕ} {from to counts : List ℕ} {cm : ℕ} {ps : List Placement} {starts processors arrivals waiting latest busy : List ℕ} {low e : ℕ}
+    (Q : Progress I l from to counts cm ps starts processors arrivals waiting latest busy low e) where
+  -- ---- whether tasks remain
 
-    pub free-is : (P : ℕ) → P < I .processors → leb (getD busy P 0) cm ≡ free I cm ps P
-    free-is P h = same-test (leb (getD busy P 0) cm) (free I cm ps P) (λ a. to-rule (leb→le (getD busy P 0) cm a) (either (free I cm ps P))) (λ f. to-arrays f (Q .busy-whose P h))
-      where
-        by : (u : Placement) → u .processor ≡ P → getD busy P 0 ≤ cm → cm < finish I u → (finish I u ≤ cm) ⊎ (finish I u ≡ getD busy (u .processor) 0) → ⊥
-        by u w a c (inl q) = absurd (omega arith)
-        by u w a c (inr q) = absurd (omega (arith, ap (λ (i : ℕ). getD busy i 0) w))
+  pub complete-is : low ≡ tasks I → Holds (complete I ps)
+  unfolding complete
+  complete-is h = all-of (placed ps) (upto (tasks I)) (λ T k. Q .below-low T (omega (arith, upto-of (tasks I) T k)))
 
-        to-rule : getD busy P 0 ≤ cm → Holds (free I cm ps P) ⊎ Holds (not (free I cm ps P)) → Holds (free I cm ps P)
-        to-rule a (inl f) = f
-        to-rule a (inr f) = let z = taken-by I cm ps P f in absurd (by (z .0) (z .2) a (z .3) (Q .busy-last (z .0) (z .1)))
+  pub incomplete-is : low < tasks I → Holds (not (complete I ps))
+  unfolding complete
+  incomplete-is h =
+      fails (complete I ps) (λ c. not-both (placed ps low) (Q .at-low h) (all-at (placed ps) (upto (tasks I)) c low (upto-in (tasks I) low h)))
 
-        to-arrays : Holds (free I cm ps P) → (getD busy P 0 ≡ 0) ⊎ ((u : Placement) × (u ∈ ps) × (u .processor ≡ P) × (finish I u ≡ getD busy P 0)) → Holds (leb (getD busy P 0) cm)
-        to-arrays f (inl q) = le→leb (getD busy P 0) cm (omega arith)
-        to-arrays f (inr z) = le→leb (getD busy P 0) cm (omega (arith, z .3, free-of I cm ps P f (z .0) (z .1) (z .2)))
+  -- ---- free processors and the next moment
 
-    pub free-list : freeAmong busy cm (I .processors) ≡ filter (free I cm ps) (upto (I .processors))
-    unfolding freeAmong
-    free-list = filter-same (λ P. leb (getD busy P 0) cm) (free I cm ps) (upto (I .processors)) (λ P h. free-is P (upto-of (I .processors) P h))
+  free-is : (P : ℕ) → P < I .processors → leb (getD busy P 0) cm ≡ free I cm ps P
+  free-is P h = same-test (leb (getD busy P 0) cm) (free I cm ps P) (λ a. to-rule (leb→le (getD busy P 0) cm a) (either (free I cm ps P))) (λ f. to-arrays f (Q .busy-whose P h))
+    where
+      by : (u : Placement) → u .processor ≡ P → getD busy P 0 ≤ cm → cm < finish I u → (finish I u ≤ cm) ⊎ (finish I u ≡ getD busy (u .processor) 0) → ⊥
+      by u w a c (inl q) = absurd (omega arith)
+      by u w a c (inr q) = absurd (omega (arith, ap (λ (i : ℕ). getD busy i 0) w))
 
+      to-rule : getD busy P 0 ≤ cm → Holds (free I cm ps P) ⊎ Holds (not (free I cm ps P)) → Holds (free I cm ps P)
+      to-rule a (inl f) = f
+      to-rule a (inr f) = let z = taken-by I cm ps P f in absurd (by (z .0) (z .2) a (z .3) (Q .busy-last (z .0) (z .1)))
+
+      to-arrays : Holds (free I cm ps P) → (getD busy P 0 ≡ 0) ⊎ ((u : Placement) × (u ∈ ps) × (u .processor ≡ P) × (finish I u ≡ getD busy P 0)) → Holds (leb (getD busy P 0) cm)
+      to-arrays f (inl q) = le→leb (getD busy P 0) cm (omega arith)
+      to-arrays f (inr z) = le→leb (getD busy P 0) cm (omega (arith, z .3, free-of I cm ps P f (z .0) (z .1) (z .2)))
+
+  pub free-list : freeAmong busy cm (I .processors) ≡ filter (free I cm ps) (upto (I .processors))
+  unfolding freeAmong
+  free-list = filter-same (λ P. leb (getD busy P 0) cm) (free I cm ps) (upto (I .processors)) (λ P h. free-is P (upto-of (I .processors) P h))
+
+  -- what a processor is busy with after the clock has been placed
+  whose : (P : ℕ) → P < I .processors → cm < getD busy P 0 → (u : Placement) × (u ∈ ps) × (finish I u ≡ getD busy P 0)
+  whose P h c = go (Q .busy-whose P h)
+    where
+      go : (getD busy P 0 ≡ 0) ⊎ ((u : Placement) × (u ∈ ps) × (u .processor ≡ P) × (finish I u ≡ getD busy P 0)) → (u : Placement) × (u ∈ ps) × (finish I u ≡ getD busy P 0)
+      go (inl q) = absurd (omega arith)
+      go (inr z) = (z .0, z .1, z .3)
+
+  module _ (S : Sound I cm ps) where
     -- no finish after the clock comes before the soonest: it is the last on its processor
     ahead-by : (u : Placement) → u ∈ ps → cm < finish I u → soonest busy cm (I .processors) ≤ finish I u
     ahead-by u h c = go (Q .busy-last u h)
@@ -186,14 +161,6 @@ module _ (I : Instance) (l : ℕ) (durations from to counts : List ℕ) (G : Giv
         go : (finish I u ≤ cm) ⊎ (finish I u ≡ getD busy (u .processor) 0) → soonest busy cm (I .processors) ≤ finish I u
         go (inl q) = absurd (omega arith)
         go (inr q) = omega (arith, soonest-le busy cm (I .processors) (u .processor) (S .in-range u h .1) (omega arith))
-
-    -- what a processor is busy with after the clock has been placed
-    whose : (P : ℕ) → P < I .processors → cm < getD busy P 0 → (u : Placement) × (u ∈ ps) × (finish I u ≡ getD busy P 0)
-    whose P h c = go (Q .busy-whose P h)
-      where
-        go : (getD busy P 0 ≡ 0) ⊎ ((u : Placement) × (u ∈ ps) × (u .processor ≡ P) × (finish I u ≡ getD busy P 0)) → (u : Placement) × (u ∈ ps) × (finish I u ≡ getD busy P 0)
-        go (inl q) = absurd (omega arith)
-        go (inr z) = (z .0, z .1, z .3)
 
     pub next-of : ((u : Placement) → u ∈ ps → finish I u ≤ 460000000) → soonest busy cm (I .processors) ≡ neverOr (nextMoment I cm ps)
     next-of early = go (nextMoment I cm ps) (next-is I cm ps) (soonest-one busy cm (I .processors))
@@ -209,6 +176,7 @@ module _ (I : Instance) (l : ℕ) (durations from to counts : List ℕ) (G : Giv
             let v = whose (r .0) (r .1) (r .2) in
             omega (arith, w .2, r .3, v .2, ahead-by (w .0) (w .1) (omega (arith, w .2)), least (v .0) (v .1) (omega (arith, v .2, r .2)))
 
+  module _ {durations : List ℕ} (G : Given I l durations from to counts) where
     -- ---- ready tasks
 
     -- a task is ready where nothing is waited for and the latest finish has passed
@@ -223,25 +191,25 @@ module _ (I : Instance) (l : ℕ) (durations from to counts : List ℕ) (G : Giv
         sent k b q (inl p) = p
         sent k b q (inr p) =
             let one = one-if-yes (awaits from to ps T k) (awaits-in from to ps T k q p) in
-            absurd (omega (arith, Q .waiting-open T h fresh-here, sum-ge l (awaited I l from to counts ps T) k b))
+            absurd (omega (arith, Q .waiting-open T h fresh-here, sum-ge l (awaited from to ps T) k b))
 
         waits-for : (d : Edge) → d ∈ into I T → Holds (placed ps (d .from)) × (finish I (placementOf ps (d .from)) ≤ cm)
         waits-for d i =
-            let z = edge-place T d i in
+            let z = edge-place G T d i in
             let p = sent (z .0) (z .1) (z .3) (either (placed ps (getD from (z .0) 0))) in
             let f = pick-yes (sends from to ps T (z .0)) (finish I (placementOf ps (getD from (z .0) 0))) 0 (sends-in from to ps T (z .0) p (z .3)) in
             subst (λ (a : Edge). Holds (placed ps (a .from)) × (finish I (placementOf ps (a .from)) ≤ cm)) (z .2)
-            (p, omega (arith, Q .latest-at T h, most-ge l (finishedBy I l from to counts ps T) (z .0) (z .1)))
+            (p, omega (arith, Q .latest-at T h, most-ge l (finishedBy I from to ps T) (z .0) (z .1)))
 
     -- for a ready task nothing is waited for
     ready-waiting : (T : ℕ) → Ready I cm ps T → getD waiting T 0 ≡ 0
     unfolding awaited edgeHeld
-    ready-waiting T r = Q .waiting-open T (r .below) (r .fresh) ∙ sum-none l (awaited I l from to counts ps T) (λ k b. one-if-no (awaits from to ps T k) (fails (awaits from to ps T k) (no k b)))
+    ready-waiting T r = Q .waiting-open T (r .below) (r .fresh) ∙ sum-none l (awaited from to ps T) (λ k b. one-if-no (awaits from to ps T k) (fails (awaits from to ps T k) (no k b)))
       where
         no : (k : ℕ) → k < l → Holds (awaits from to ps T k) → ⊥
         no k b h =
             let a = awaits-of from to ps T k h in
-            not-both (placed ps (getD from k 0)) (a .1) (r .waits (edgeHeld from to counts k) (edge-into T k b (a .0)) .0)
+            not-both (placed ps (getD from k 0)) (a .1) (r .waits (edgeHeld from to counts k) (edge-into G T k b (a .0)) .0)
 
     -- and the latest finish has passed
     ready-latest : (T : ℕ) → Ready I cm ps T → getD latest T 0 ≤ cm
@@ -251,9 +219,9 @@ module _ (I : Instance) (l : ℕ) (durations from to counts : List ℕ) (G : Giv
         go : (getD latest T 0 ≤ cm) ⊎ (cm < getD latest T 0) → getD latest T 0 ≤ cm
         go (inl q) = q
         go (inr q) =
-            let z = most-at l (finishedBy I l from to counts ps T) cm (omega (arith, Q .latest-at T (r .below))) in
+            let z = most-at l (finishedBy I from to ps T) cm (omega (arith, Q .latest-at T (r .below))) in
             let f = pick-over (sends from to ps T (z .0)) (finish I (placementOf ps (getD from (z .0) 0))) cm (z .2) in
-            absurd (omega (arith, f .1, r .waits (edgeHeld from to counts (z .0)) (edge-into T (z .0) (z .1) (sends-to from to ps T (z .0) (f .0))) .1))
+            absurd (omega (arith, f .1, r .waits (edgeHeld from to counts (z .0)) (edge-into G T (z .0) (z .1) (sends-to from to ps T (z .0) (f .0))) .1))
 
     pub ready-is : (T : ℕ) → T < tasks I → canStart cm waiting latest T ≡ ready I cm ps T
     unfolding canStart
@@ -273,29 +241,18 @@ module _ (I : Instance) (l : ℕ) (durations from to counts : List ℕ) (G : Giv
 
     pub arrival-is : (T P : ℕ) → T < tasks I → P < I .processors → Opened I ps T → getD arrivals (16 * T + P) 0 ≡ arrival I ps T P
     unfolding reached edgeHeld
-    arrival-is T P h b o = Q .arrival-at T P h b ∙ same-number (most l (reached I l from to counts ps T P)) (arrival I ps T P) to-rule to-arrays
+    arrival-is T P h b o = Q .arrival-at T P h b ∙ same-number (most l (reached I from to counts ps T P)) (arrival I ps T P) to-rule to-arrays
       where
-        to-rule : (t : ℕ) → t < most l (reached I l from to counts ps T P) → t < arrival I ps T P
+        to-rule : (t : ℕ) → t < most l (reached I from to counts ps T P) → t < arrival I ps T P
         to-rule t q =
-            let z = most-at l (reached I l from to counts ps T P) t q in
+            let z = most-at l (reached I from to counts ps T P) t q in
             let f = pick-over (sends from to ps T (z .0)) (reach I ps P (edgeHeld from to counts (z .0))) t (z .2) in
-            omega (arith, f .1, arrival-ge I ps T P (edgeHeld from to counts (z .0)) (edge-into T (z .0) (z .1) (sends-to from to ps T (z .0) (f .0))))
+            omega (arith, f .1, arrival-ge I ps T P (edgeHeld from to counts (z .0)) (edge-into G T (z .0) (z .1) (sends-to from to ps T (z .0) (f .0))))
 
-        to-arrays : (t : ℕ) → t < arrival I ps T P → t < most l (reached I l from to counts ps T P)
+        to-arrays : (t : ℕ) → t < arrival I ps T P → t < most l (reached I from to counts ps T P)
         to-arrays t q =
             let y = arrival-at I ps T P t q in
-            let z = edge-place T (y .0) (y .1) in
+            let z = edge-place G T (y .0) (y .1) in
             let p : Holds (placed ps (getD from (z .0) 0)) = rw (ap (λ (a : Edge). a .from) (z .2)) (o (y .0) (y .1)) in
             let f = pick-yes (sends from to ps T (z .0)) (reach I ps P (edgeHeld from to counts (z .0))) 0 (sends-in from to ps T (z .0) p (z .3)) in
-            omega (arith, y .2, ap (λ (a : Edge). reach I ps P a) (z .2), most-ge l (reached I l from to counts ps T P) (z .0) (z .1))
-
-    -- ---- whether tasks remain
-
-    pub complete-is : low ≡ tasks I → Holds (complete I ps)
-    unfolding complete
-    complete-is h = all-of (placed ps) (upto (tasks I)) (λ T k. Q .below-low T (omega (arith, upto-of (tasks I) T k)))
-
-    pub incomplete-is : low < tasks I → Holds (not (complete I ps))
-    unfolding complete
-    incomplete-is h =
-        fails (complete I ps) (λ c. not-both (placed ps low) (Q .at-low h) (all-at (placed ps) (upto (tasks I)) c low (upto-in (tasks I) low h)))
+            omega (arith, y .2, ap (λ (a : Edge). reach I ps P a) (z .2), most-ge l (reached I from to counts ps T P) (z .0) (z .1))

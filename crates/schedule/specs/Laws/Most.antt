@@ -1,10 +1,14 @@
--- The greatest and the sum of a row of numbers: by place, up to a place, of two rows. By induction on their number.
-use mathlib.Core.Path.{_≡_, refl, _∙_}
+-- The greatest and the sum of a row of numbers: by place, one place more, up to a place, of two rows. By induction on their number.
+use mathlib.Core.Path.{_≡_, refl, sym, _∙_}
 use mathlib.Core.Logic.{_⊎_, inl, inr}
+use mathlib.Core.Bool.{Bool}
 use Prim.Native.Nat.{ℕ, zero, suc, _+_, _≤_, _<_, max}
+use native.Mathlib.Numerals.{add-one}
 use native.Mathlib.Omega.{arith}
-use Rattle.etf.specs.Laws.Sums.{sum}
-use Rattle.etf.specs.Laws.Tests.{le-or-lt}
+use lib.Dec.{ltb, ltb→lt, lt→ltb}
+use Rattle.job.specs.Number.{pick}
+use Rattle.etf.specs.Laws.Sums.{sum, one-if, one-if-most, sum-same}
+use Rattle.etf.specs.Laws.Tests.{fails, pick-yes, pick-no, le-or-lt}
 use Rattle.schedule.specs.Pass.{most}
 
 pub most-ge : (n : ℕ) (f : ℕ → ℕ) (i : ℕ) → i < n → f i ≤ most n f
@@ -35,6 +39,14 @@ unfolding most
 most-max zero f g = refl
 most-max (suc n) f g = omega (arith, most-max n f g)
 
+pub most-more : (n : ℕ) (f : ℕ → ℕ) → most (n + 1) f ≡ max (most n f) (f n)
+unfolding most
+most-more n f = rw add-one
+
+pub sum-more : (n : ℕ) (f : ℕ → ℕ) → sum (n + 1) f ≡ sum n f + f n
+unfolding sum
+sum-more n f = rw add-one
+
 -- 0 from place a on
 pub most-cut : (n a : ℕ) (f : ℕ → ℕ) → a ≤ n → ((i : ℕ) → a ≤ i → i < n → f i ≡ 0) → most n f ≡ most a f
 unfolding most
@@ -53,3 +65,36 @@ sum-cut (suc n) a f h z = go (le-or-lt a n) (λ k. sum-cut n a f k (λ i p q. z 
     go : (a ≤ n) ⊎ (n < a) → (a ≤ n → sum n f ≡ sum a f) → sum n f + f n ≡ sum a f
     go (inl k) r = omega (arith, r k, z n k (omega arith))
     go (inr k) r = let e : a ≡ suc n = omega arith in rw e
+
+-- 0 at each place
+pub most-none : (n : ℕ) (f : ℕ → ℕ) → ((i : ℕ) → i < n → f i ≡ 0) → most n f ≡ 0
+unfolding most
+most-none n f z = most-cut n 0 f (omega arith) (λ i a b. z i b)
+
+pub sum-none : (n : ℕ) (f : ℕ → ℕ) → ((i : ℕ) → i < n → f i ≡ 0) → sum n f ≡ 0
+unfolding sum
+sum-none n f z = sum-cut n 0 f (omega arith) (λ i a b. z i b)
+
+-- 0 from place a on, and f before it
+abbrev pub until : ℕ → (ℕ → ℕ) → ℕ → ℕ
+until a f k = pick (ltb k a) (f k) 0
+
+pub until-before : (a : ℕ) (f : ℕ → ℕ) (k : ℕ) → k < a → until a f k ≡ f k
+until-before a f k h = pick-yes (ltb k a) (f k) 0 (lt→ltb k a h)
+
+pub until-past : (a : ℕ) (f : ℕ → ℕ) (k : ℕ) → a ≤ k → until a f k ≡ 0
+until-past a f k h = pick-no (ltb k a) (f k) 0 (fails (ltb k a) (λ t. absurd (omega (arith, ltb→lt k a t))))
+
+pub most-until : (n a : ℕ) (f : ℕ → ℕ) → a ≤ n → most a f ≡ most n (until a f)
+most-until n a f h =
+    most-same a f (until a f) (λ k b. sym (until-before a f k b)) ∙ sym (most-cut n a (until a f) h (λ k b c. until-past a f k b))
+
+pub sum-until : (n a : ℕ) (f : ℕ → ℕ) → a ≤ n → sum a f ≡ sum n (until a f)
+sum-until n a f h =
+    sum-same a f (until a f) (λ k b. sym (until-before a f k b)) ∙ sym (sum-cut n a (until a f) h (λ k b c. until-past a f k b))
+
+-- no more of n places pass a test than there are
+pub count-most : (n : ℕ) (p : ℕ → Bool) → sum n (λ i. one-if (p i)) ≤ n
+unfolding sum
+count-most zero p = omega arith
+count-most (suc n) p = omega (arith, count-most n p, one-if-most (p n))

@@ -1,6 +1,6 @@
 -- What the planner and the checker learn from the reader's contract: a verdict with counts comes with an accepted job, which the arrays hold.
 use mathlib.Core.Bool.{true, false}
-use mathlib.Core.Path.{_≡_, refl, ap, sym, subst, _∙_}
+use mathlib.Core.Path.{_≡_, ap, sym, subst, _∙_}
 use mathlib.Core.List.{List}
 use Prim.Native.Nat.{ℕ, _≤_}
 use native.Mathlib.Omega.{arith}
@@ -17,10 +17,10 @@ use Rattle.etf.specs.Topology.{cost, square}
 use Rattle.schedule.specs.Pass.{InArrays}
 
 -- a refused file
-pub refused-is : (a : Answer) (k : ℕ) → readingOf a .verdict ≡ Refused k → a ≡ refused k
+pub refused-is : (a : Answer) {k : ℕ} → readingOf a .verdict ≡ Refused k → a ≡ refused k
 unfolding readingOf
-refused-is (accepted j) k e = let z : false ≡ true = cc in never z
-refused-is (refused n) k e = cc
+refused-is (accepted j) e = let z : false ≡ true = cc in never z
+refused-is (refused n) e = cc
 
 -- an accepted file: the job, held in the arrays of its reading x
 pub record Read (file : List ℕ) (x : Reading) (m l : ℕ) : Type 0 where
@@ -39,8 +39,8 @@ held-as : (j : Job) (m l : ℕ) → length (j .tasks) ≡ m → length (j .edges
 unfolding readingOf
 held-as j m l a b = rw (← a, ← b) (read-held j)
 
-pub read-as : (file : List ℕ) (x : Reading) (m l : ℕ) → x ≡ readingOf (readJob file) → x .verdict ≡ Counts m l → Read file x m l
-read-as file x m l e v =
+pub read-as : {file : List ℕ} {x : Reading} {m l : ℕ} → x ≡ readingOf (readJob file) → x .verdict ≡ Counts m l → Read file x m l
+read-as {file} {x} {m} {l} e v =
     let c = counted (readJob file) m l (ap (λ (r : Reading). r .verdict) (sym e) ∙ v) in
     let j = c .0 in
     let a = accepted-job file j (c .1) in
@@ -58,7 +58,7 @@ read-as file x m l e v =
       counts-size = ap (λ (y : Reading). length (y .counts)) r ∙ s .counts-length;
     }
 
-module _ (file : List ℕ) (x : Reading) (m l : ℕ) (K : Read file x m l) where
+module _ {file : List ℕ} {x : Reading} {m l : ℕ} (K : Read file x m l) where
   held-sound : Accepted (heldJob (x .platform) m l (x .durations) (x .from) (x .to) (x .counts))
   held-sound = subst Accepted (sym (K .held)) (K .sound)
 
@@ -70,9 +70,9 @@ module _ (file : List ℕ) (x : Reading) (m l : ℕ) (K : Read file x m l) where
   pub few-tasks : m ≤ 256
   few-tasks = omega (arith, K .tasks-are, K .sound .few-tasks)
 
-  pub in-arrays : (costs : List (List ℕ)) → costs ≡ square (x .platform .processors) (cost (x .platform))
+  pub in-arrays : {costs : List (List ℕ)} → costs ≡ square (x .platform .processors) (cost (x .platform))
       → InArrays (x .platform) m l (x .durations) (x .from) (x .to) (x .counts) costs
-  in-arrays costs e = record {
+  in-arrays e = record {
     accepted = held-sound;
     durations-size = K .durations-size;
     from-size = K .from-size;

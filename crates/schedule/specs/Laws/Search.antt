@@ -2,7 +2,7 @@
 use mathlib.Core.Path.{_≡_, refl, sym, ap, _∙_, subst}
 use mathlib.Core.Bool.{Bool, true, false, not}
 use mathlib.Core.Option.{Option, none, some}
-use mathlib.Core.List.{List, [], _∷_, _++_, map, flatMap, map-append}
+use mathlib.Core.List.{List, [], _∷_, _++_, map, flatMap, map-append, map-map}
 use Prim.Native.Nat.{ℕ, zero, suc, _+_, _*_, _-_, _≤_, _<_, max}
 use native.Mathlib.Nat.{zero-add}
 use native.Mathlib.Omega.{arith}
@@ -11,29 +11,22 @@ use lib.Dec.{T as Holds}
 use lib.ListN.{getD}
 use Rattle.job.specs.Number.{pick}
 use Rattle.job.specs.Write.{values}
-use Rattle.job.specs.Laws.Values.{values-snoc, map-values}
-use Rattle.etf.specs.Lists.{_∈_, here, there, upto, filter, keep, best}
+use Rattle.job.specs.Laws.Values.{map-values}
+use Rattle.etf.specs.Lists.{_∈_, upto, filter, keep, best}
 use Rattle.etf.specs.Instance.{Instance, tasks}
 use Rattle.etf.specs.Schedule.{Placement, arrival}
 use Rattle.etf.specs.Rule.{ready, pair, pairs, choice}
 use Rattle.etf.specs.Rule.{free as isFree}
 use Rattle.etf.specs.Laws.Tests.{fails, pick-yes, pick-no}
-use Rattle.etf.specs.Laws.Lists.{filter-of, upto-of, flatMap-of, map-of, Best, nothing, found, best-is, by-least}
+use Rattle.etf.specs.Laws.Lists.{map-same, filter-of, upto-of, flatMap-of, map-of, Best, nothing, found, best-is, by-least}
 use Rattle.schedule.specs.declared.planner.Pair.{Pair}
 use Rattle.schedule.specs.Pass.{never, noPair, pairAt, firstBest, rowOf, canStart, searched}
+use Rattle.schedule.specs.Laws.Lists.{upto-values}
+use Rattle.schedule.specs.Laws.Progress.{pairOf}
 
--- the rule's choice, as the planner holds it
-abbrev pub pairOf : Option Placement → Pair
-pairOf none = noPair
-pairOf (some u) = record { start = u .start; task = u .task; processor = u .processor }
-
+-- a placement, as the planner holds it
 abbrev asPair : Placement → Pair
 asPair u = pairOf (some u)
-
--- the next moment, as the planner holds it
-abbrev pub neverOr : Option ℕ → ℕ
-neverOr none = never
-neverOr (some x) = x
 
 -- one pair starts sooner than another
 abbrev sooner : Placement → Placement → Bool
@@ -93,19 +86,6 @@ from-none l low = go (best sooner l) (best-is sooner (by-least (λ u. u .start))
 
 -- ---- rows of tasks
 
-map-same : {A B : Type 0} (f g : A → B) (l : List A) → ((a : A) → a ∈ l → f a ≡ g a) → map f l ≡ map g l
-map-same f g [] e = refl
-map-same f g (x ∷ xs) e = rw (e x (here refl), map-same f g xs (λ a h. e a (there h)))
-
-map-twice : {A B C : Type 0} (f : B → C) (g : A → B) (l : List A) → map f (map g l) ≡ map (λ a. f (g a)) l
-map-twice f g [] = refl
-map-twice f g (x ∷ xs) = rw (map-twice f g xs)
-
-upto-values : (m : ℕ) → upto m ≡ values (λ i. i) 0 m
-unfolding upto values
-upto-values zero = refl
-upto-values (suc m) = sym (values-snoc (λ i. i) 0 m ∙ rw (zero-add m, upto-values m))
-
 -- tasks below `low`, none of which passes, add nothing
 skip-low : (r : ℕ → Bool) (low k : ℕ) → ((i : ℕ) → i < low → Holds (not (r i)))
     → filter r (values (λ i. i) 0 (low + k)) ≡ filter r (values (λ i. i) low k)
@@ -153,51 +133,48 @@ module _ (I : Instance) (cm : ℕ) (ps : List Placement) where
       ∙ ap (map (pairAt cm arrivals T)) listed
       ∙ map-same (pairAt cm arrivals T) (λ P. asPair (pair I cm ps T P)) (filter (isFree I cm ps) (upto (I .processors)))
       (λ P h. rw (arrived P (upto-of (I .processors) P (filter-of (isFree I cm ps) (upto (I .processors)) P h .0))))
-      ∙ sym (map-twice asPair (pair I cm ps T) (filter (isFree I cm ps) (upto (I .processors))))
+      ∙ sym (map-map asPair (pair I cm ps T) (filter (isFree I cm ps) (upto (I .processors))))
 
-  -- the pairs' starts are below `never` where those of ready tasks are
-  starts-low : I .order ≡ upto (tasks I)
-      → ((T P : ℕ) → T < tasks I → Holds (ready I cm ps T) → P < I .processors → max cm (arrival I ps T P) < never)
-      → (u : Placement) → u ∈ pairs I cm ps → u .start < never
-  unfolding pairs pair
-  starts-low by-number low u h =
-      let g = flatMap-of (λ T. map (pair I cm ps T) (filter (isFree I cm ps) (upto (I .processors)))) (filter (ready I cm ps) (I .order)) u h in
-      let r = filter-of (ready I cm ps) (I .order) (g .0) (g .1) in
-      let p = map-of (pair I cm ps (g .0)) (filter (isFree I cm ps) (upto (I .processors))) u (g .2) in
-      let f = filter-of (isFree I cm ps) (upto (I .processors)) (p .0) (p .1) in
-      let below = upto-of (tasks I) (g .0) (subst (λ l. g .0 ∈ l) by-number (r .0)) in
-      omega (arith, ap (λ (v : Placement). v .start) (p .2), low (g .0) (p .0) below (r .1) (upto-of (I .processors) (p .0) (f .0)))
+  -- where what each ready task could have on a processor starts before `never`
+  module _ (by-number : I .order ≡ upto (tasks I))
+      (soon : (T P : ℕ) → T < tasks I → Holds (ready I cm ps T) → P < I .processors → max cm (arrival I ps T P) < never) where
+    -- so does each pair
+    pair-soon : (u : Placement) → u ∈ pairs I cm ps → u .start < never
+    unfolding pairs pair
+    pair-soon u h =
+        let g = flatMap-of (λ T. map (pair I cm ps T) (filter (isFree I cm ps) (upto (I .processors)))) (filter (ready I cm ps) (I .order)) u h in
+        let r = filter-of (ready I cm ps) (I .order) (g .0) (g .1) in
+        let p = map-of (pair I cm ps (g .0)) (filter (isFree I cm ps) (upto (I .processors))) u (g .2) in
+        let f = filter-of (isFree I cm ps) (upto (I .processors)) (p .0) (p .1) in
+        let below = upto-of (tasks I) (g .0) (subst (λ l. g .0 ∈ l) by-number (r .0)) in
+        omega (arith, ap (λ (v : Placement). v .start) (p .2), soon (g .0) (p .0) below (r .1) (upto-of (I .processors) (p .0) (f .0)))
 
-  -- and so is the start of the choice
-  pub choice-most : I .order ≡ upto (tasks I)
-      → ((T P : ℕ) → T < tasks I → Holds (ready I cm ps T) → P < I .processors → max cm (arrival I ps T P) < never)
-      → pairOf (choice I cm ps) .start ≤ never
-  unfolding choice
-  choice-most by-number low = go (choice I cm ps) (best-is sooner (by-least (λ u. u .start)) (pairs I cm ps))
-    where
-      go : (o : Option Placement) → Best sooner (pairs I cm ps) o → pairOf o .start ≤ never
-      go o (nothing z) = omega arith
-      go o (found u h le) = omega (arith, starts-low by-number low u h)
+    -- and the choice
+    pub choice-most : pairOf (choice I cm ps) .start ≤ never
+    unfolding choice
+    choice-most = go (choice I cm ps) (best-is sooner (by-least (λ u. u .start)) (pairs I cm ps))
+      where
+        go : (o : Option Placement) → Best sooner (pairs I cm ps) o → pairOf o .start ≤ never
+        go o (nothing z) = omega arith
+        go o (found u h le) = omega (arith, pair-soon u h)
 
--- the search over the arrays, from a task below which none is ready, gives the rule's choice
-pub search-is : (I : Instance) (cm : ℕ) (ps : List Placement) (waiting latest arrivals free : List ℕ) (k low : ℕ)
-    → I .order ≡ upto (tasks I) → low ≤ tasks I
-    → ((T : ℕ) → T < low → Holds (not (ready I cm ps T)))
-    → ((T : ℕ) → T < tasks I → canStart cm waiting latest T ≡ ready I cm ps T)
-    → values (λ i. getD free i 0) 0 k ≡ filter (isFree I cm ps) (upto (I .processors))
-    → ((T P : ℕ) → T < tasks I → Holds (ready I cm ps T) → P < I .processors → getD arrivals (16 * T + P) 0 ≡ arrival I ps T P)
-    → ((T P : ℕ) → T < tasks I → Holds (ready I cm ps T) → P < I .processors → max cm (arrival I ps T P) < never)
-    → searched cm waiting latest (rowOf cm arrivals free k) low (tasks I - low) noPair ≡ pairOf (choice I cm ps)
-unfolding choice pairs rowFree
-search-is I cm ps waiting latest arrivals free k low by-number most not-yet same listed arrived below =
-    let e : low + (tasks I - low) ≡ tasks I = omega arith in
-    let all-tasks : filter (ready I cm ps) (values (λ i. i) low (tasks I - low)) ≡ filter (ready I cm ps) (I .order) =
-    sym (skip-low (ready I cm ps) low (tasks I - low) not-yet)
-    ∙ ap (λ (n : ℕ). filter (ready I cm ps) (values (λ i. i) 0 n)) e
-    ∙ ap (filter (ready I cm ps)) (sym (by-number ∙ upto-values (tasks I))) in
-    search-rows cm waiting latest (rowOf cm arrivals free k) (ready I cm ps) (rowFree I cm ps) low (tasks I - low) noPair
-    (λ T h. same T (omega arith))
-    (λ T h q. row-is I cm ps arrivals free k T listed (λ P b. arrived T P (omega arith) q b))
-    ∙ ap (λ (l : List ℕ). firstBest noPair (map asPair (flatMap (rowFree I cm ps) l))) all-tasks
-    ∙ firstBest-is noPair (pairs I cm ps)
-    ∙ from-none (pairs I cm ps) (starts-low I cm ps by-number below)
+    -- the search over the arrays, from a task below which none is ready, gives the rule's choice
+    pub search-is : (waiting latest arrivals free : List ℕ) (k low : ℕ) → low ≤ tasks I
+        → ((T : ℕ) → T < low → Holds (not (ready I cm ps T)))
+        → ((T : ℕ) → T < tasks I → canStart cm waiting latest T ≡ ready I cm ps T)
+        → values (λ i. getD free i 0) 0 k ≡ filter (isFree I cm ps) (upto (I .processors))
+        → ((T P : ℕ) → T < tasks I → Holds (ready I cm ps T) → P < I .processors → getD arrivals (16 * T + P) 0 ≡ arrival I ps T P)
+        → searched cm waiting latest (rowOf cm arrivals free k) low (tasks I - low) noPair ≡ pairOf (choice I cm ps)
+    unfolding choice pairs rowFree
+    search-is waiting latest arrivals free k low most not-yet same listed arrived =
+        let e : low + (tasks I - low) ≡ tasks I = omega arith in
+        let all-tasks : filter (ready I cm ps) (values (λ i. i) low (tasks I - low)) ≡ filter (ready I cm ps) (I .order) =
+        sym (skip-low (ready I cm ps) low (tasks I - low) not-yet)
+        ∙ ap (λ (n : ℕ). filter (ready I cm ps) (values (λ i. i) 0 n)) e
+        ∙ ap (filter (ready I cm ps)) (sym (by-number ∙ upto-values (tasks I))) in
+        search-rows cm waiting latest (rowOf cm arrivals free k) (ready I cm ps) rowFree low (tasks I - low) noPair
+        (λ T h. same T (omega arith))
+        (λ T h q. row-is arrivals free k T listed (λ P b. arrived T P (omega arith) q b))
+        ∙ ap (λ (l : List ℕ). firstBest noPair (map asPair (flatMap rowFree l))) all-tasks
+        ∙ firstBest-is noPair (pairs I cm ps)
+        ∙ from-none (pairs I cm ps) pair-soon

@@ -4,53 +4,37 @@ use mathlib.Core.Logic.{_⊎_, inl, inr}
 use mathlib.Core.Bool.{not}
 use mathlib.Core.List.{List}
 use Prim.Native.Nat.{ℕ, _+_, _*_, _≤_, _<_, max}
-use native.Mathlib.Numerals.{add-one}
 use native.Mathlib.Omega.{arith}
 use lib.Dec.{leb, eqb, leb→le, le→leb, eqb→eq}
 use lib.Dec.{T as Holds}
 use lib.ListN.{getD}
 use Rattle.job.specs.Number.{pick}
 use Rattle.etf.specs.Laws.Sums.{sum, one-if, one-if-yes, one-if-no}
-use Rattle.etf.specs.Laws.Tests.{either, both, first, second, fails, eq→eqb, neqb→ne, pick-yes, pick-no, le-or-lt}
+use Rattle.etf.specs.Laws.Tests.{both, first, second, fails, eq→eqb, pick-yes, pick-no, le-or-lt}
 use Rattle.schedule.specs.Pass.{most, Raised, sentTo}
-use Rattle.schedule.specs.Laws.Most.{most-cut, sum-cut}
-
--- two numbers are the same or not
-pub same-or-not : (a b : ℕ) → (a ≡ b) ⊎ (a ≡ b → ⊥)
-same-or-not a b = elim (either (eqb a b)) [ inl h ↦ inl (eqb→eq a b h) | inr h ↦ inr (neqb→ne a b h) ]
-
--- one place more
-pub most-more : (n : ℕ) (f : ℕ → ℕ) → most (n + 1) f ≡ max (most n f) (f n)
-unfolding most
-most-more n f = rw add-one
-
-pub sum-more : (n : ℕ) (f : ℕ → ℕ) → sum (n + 1) f ≡ sum n f + f n
-unfolding sum
-sum-more n f = rw add-one
+use Rattle.schedule.specs.Laws.Most.{most-more, sum-more, most-none, sum-none}
 
 module _ (to : List ℕ) (a T : ℕ) where
-  pub sent-here : (k : ℕ) → a ≤ k → getD to k 0 ≡ T → Holds (sentTo to a T k)
+  sent-here : (k : ℕ) → a ≤ k → getD to k 0 ≡ T → Holds (sentTo to a T k)
   unfolding sentTo
   sent-here k h e = both (leb a k) (eqb (getD to k 0) T) (le→leb a k h) (eq→eqb (getD to k 0) T e)
 
-  pub sent-before : (k : ℕ) → k < a → Holds (not (sentTo to a T k))
+  sent-before : (k : ℕ) → k < a → Holds (not (sentTo to a T k))
   unfolding sentTo
   sent-before k h =
       fails (sentTo to a T k) (λ q. absurd (omega (arith, leb→le a k (first (leb a k) (eqb (getD to k 0) T) q))))
 
-  pub sent-elsewhere : (k : ℕ) → (getD to k 0 ≡ T → ⊥) → Holds (not (sentTo to a T k))
+  sent-elsewhere : (k : ℕ) → (getD to k 0 ≡ T → ⊥) → Holds (not (sentTo to a T k))
   unfolding sentTo
   sent-elsewhere k h =
       fails (sentTo to a T k) (λ q. h (eqb→eq (getD to k 0) T (second (leb a k) (eqb (getD to k 0) T) q)))
 
   -- nothing is sent before the first edge
   pub most-unsent : (f : ℕ → ℕ) → most a (λ k. pick (sentTo to a T k) (f k) 0) ≡ 0
-  unfolding most
-  most-unsent f = most-cut a 0 (λ k. pick (sentTo to a T k) (f k) 0) (omega arith) (λ i p q. pick-no (sentTo to a T i) (f i) 0 (sent-before i q))
+  most-unsent f = most-none a (λ k. pick (sentTo to a T k) (f k) 0) (λ i h. pick-no (sentTo to a T i) (f i) 0 (sent-before i h))
 
   pub sum-unsent : sum a (λ k. one-if (sentTo to a T k)) ≡ 0
-  unfolding sum
-  sum-unsent = sum-cut a 0 (λ k. one-if (sentTo to a T k)) (omega arith) (λ i p q. one-if-no (sentTo to a T i) (sent-before i q))
+  sum-unsent = sum-none a (λ k. one-if (sentTo to a T k)) (λ i h. one-if-no (sentTo to a T i) (sent-before i h))
 
   -- edge k goes to task T
   pub most-sent : (k : ℕ) → a ≤ k → (f : ℕ → ℕ) → getD to k 0 ≡ T

@@ -16,8 +16,7 @@ use Rattle.etf.specs.Laws.Tests.{not-both, fails, pick-yes, pick-no}
 use Rattle.etf.specs.Laws.Turn.{Put, Tick, Turn, rest, put, tick, stuck, turn, Next, endless, at, next-is}
 use Rattle.etf.specs.Laws.Rounds.{none-stuck}
 use Rattle.schedule.specs.Pass.{never}
-use Rattle.schedule.specs.Laws.Progress.{state}
-use Rattle.schedule.specs.Laws.Search.{pairOf, neverOr}
+use Rattle.schedule.specs.Laws.Progress.{state, neverOr, pairOf}
 
 module _ (I : Instance) (W : WellFormed I) (cm : ℕ) (ps : List Placement) (h : Holds (not (complete I ps)))
     (low : (u : Placement) → u ∈ ps → finish I u ≤ 460000000) where

@@ -10,7 +10,7 @@ use borrow.Author.Tests.{lt-ltb, le-ltb}
 use lib.Dec.{ltb}
 use lib.ListN.{getD}
 use Rattle.schedule.specs.Pass.{Judgeable, someIn, earlyAt}
-use Rattle.schedule.specs.Laws.Checked.{all-left, none-left, met, passed}
+use Rattle.schedule.specs.Laws.Rows.{all-left, none-left, met, passed}
 use Rattle.schedule.proofs.checker.any_early.Statement.{statement}
 use Rattle.schedule.proofs.checker.any_early.Tie as tie
 

@@ -4,7 +4,7 @@ use mathlib.Core.Bool.{Bool, true, false}
 use Prim.Native.Nat.{ℕ, _+_, _-_, _≤_, _<_}
 use borrow.Author.Needs.{needs}
 use Rattle.schedule.specs.Pass.{someIn, overlapsLater}
-use Rattle.schedule.specs.Laws.Checked.{all-left, none-left, met, passed}
+use Rattle.schedule.specs.Laws.Rows.{all-left, none-left, met, passed}
 use Rattle.schedule.proofs.checker.any_overlap.Statement.{statement}
 use Rattle.schedule.proofs.checker.any_overlap.Tie as tie
 

@@ -9,7 +9,7 @@ use borrow.Author.Needs.{needs}
 use borrow.Author.Tests.{lt-ltb, le-ltb, eq-eqb, ne-eqb}
 use lib.ListN.{getD}
 use Rattle.schedule.specs.Pass.{someIn, overlapAt, overlapsLater}
-use Rattle.schedule.specs.Laws.Checked.{none-left, met, passed}
+use Rattle.schedule.specs.Laws.Rows.{none-left, met, passed}
 use Rattle.schedule.proofs.checker.overlaps_later.Statement.{statement}
 use Rattle.schedule.proofs.checker.overlaps_later.Tie as tie
 

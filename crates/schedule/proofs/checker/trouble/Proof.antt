@@ -1,7 +1,8 @@
 -- `checker::trouble`: what the three calls answer is the checker's number for the plan (Laws/Checked), and where no task is in trouble
 -- the tasks can be judged.
 use borrow.Author.Needs.{needs}
-use Rattle.schedule.specs.Laws.Checked.{edges-there, edge-fits, costs-most, says-place, processor-most, judgeable, says-overlap, says-early, says-nothing}
+use Rattle.schedule.specs.Laws.Given.{cost-small}
+use Rattle.schedule.specs.Laws.Checked.{edges-there, edge-fits, says-place, processor-most, judgeable, says-overlap, says-early, says-nothing}
 use Rattle.schedule.proofs.checker.trouble.Statement.{statement}
 use Rattle.schedule.proofs.checker.trouble.Tie as tie
 
@@ -16,14 +17,14 @@ returns c =
     let at-misplaced = c .before in
     let at-index = at-misplaced .before in
     let at-start = at-index .before .before .before .before .before .before .before in
-    says-place _ _ _ _ _ _ _ _ (at-start .pre .0) _ _ _ _ (at-index .index .ensures .0) (at-misplaced .misplaced .ensures) (c .if1 .taken)
+    says-place (at-start .pre .0) _ _ (at-index .index .ensures .0) (at-misplaced .misplaced .ensures) (c .if1 .taken)
 
 any-overlap-requires : tie.Need-any-overlap-requires
 any-overlap-requires c κs =
     let at-misplaced = c .before in
     let at-index = at-misplaced .before in
     let at-start = at-index .before .before .before .before .before .before .before in
-    judgeable _ _ _ _ _ _ _ _ (at-start .pre .0) _ _ _ _ (at-index .index .ensures .0) (at-misplaced .misplaced .ensures) (c .if1 .left) (at-start .pre .1)
+    judgeable (at-start .pre .0) _ _ (at-index .index .ensures .0) (at-misplaced .misplaced .ensures) (c .if1 .left) (at-start .pre .1)
 
 any-early-requires : tie.Need-any-early-requires
 any-early-requires c κs =
@@ -31,18 +32,18 @@ any-early-requires c κs =
     let at-misplaced = at-if1 .before in
     let at-index = at-misplaced .before in
     let at-start = at-index .before .before .before .before .before .before .before in
-    let there = edges-there _ _ _ _ _ _ _ _ (at-start .pre .0) in (
+    let there = edges-there (at-start .pre .0) in (
       (
-        judgeable _ _ _ _ _ _ _ _ (at-start .pre .0) _ _ _ _ (at-index .index .ensures .0) (at-misplaced .misplaced .ensures) (at-if1 .if1 .left) (at-start .pre .1),
+        judgeable (at-start .pre .0) _ _ (at-index .index .ensures .0) (at-misplaced .misplaced .ensures) (at-if1 .if1 .left) (at-start .pre .1),
         there .0,
         there .1,
         there .2,
       ),
       (
-        edge-fits _ _ _ _ _ _ _ _ (at-start .pre .0),
+        edge-fits (at-start .pre .0),
         (
-          processor-most _ _ _ _ _ _ _ _ (at-start .pre .0) _ _ _ _ (at-index .index .ensures .0) (at-misplaced .misplaced .ensures) (at-if1 .if1 .left),
-          costs-most _ _ _ _ _ _ _ _ (at-start .pre .0),
+          processor-most (at-start .pre .0) _ _ (at-index .index .ensures .0) (at-misplaced .misplaced .ensures) (at-if1 .if1 .left),
+          cost-small (at-start .pre .0),
         ),
       ),
     )
@@ -54,8 +55,8 @@ returns-2 c =
     let at-misplaced = at-if1 .before in
     let at-index = at-misplaced .before in
     let at-start = at-index .before .before .before .before .before .before .before in
-    says-overlap _ _ _ _ _ _ _ _ (at-start .pre .0) _ _ _ _ (at-index .index .ensures .0) (at-misplaced .misplaced .ensures) (at-if1 .if1 .left)
-    _ (at-any-overlap .any-overlap .ensures) (c .if2 .taken)
+    says-overlap (at-start .pre .0) _ _ (at-index .index .ensures .0) (at-misplaced .misplaced .ensures) (at-if1 .if1 .left)
+    (at-any-overlap .any-overlap .ensures) (c .if2 .taken)
 
 returns-3 : tie.Need-returns-3
 returns-3 c =
@@ -66,8 +67,8 @@ returns-3 c =
     let at-misplaced = at-if1 .before in
     let at-index = at-misplaced .before in
     let at-start = at-index .before .before .before .before .before .before .before in
-    says-early _ _ _ _ _ _ _ _ (at-start .pre .0) _ _ _ _ (at-index .index .ensures .0) (at-misplaced .misplaced .ensures) (at-if1 .if1 .left)
-    _ (at-any-overlap .any-overlap .ensures) (at-if2 .if2 .left) _ (at-any-early .any-early .ensures) (c .if3 .taken)
+    says-early (at-start .pre .0) _ _ (at-index .index .ensures .0) (at-misplaced .misplaced .ensures) (at-if1 .if1 .left)
+    (at-any-overlap .any-overlap .ensures) (at-if2 .if2 .left) (at-any-early .any-early .ensures) (c .if3 .taken)
 
 returns-4 : tie.Need-returns-4
 returns-4 c =
@@ -78,8 +79,8 @@ returns-4 c =
     let at-misplaced = at-if1 .before in
     let at-index = at-misplaced .before in
     let at-start = at-index .before .before .before .before .before .before .before in
-    says-nothing _ _ _ _ _ _ _ _ (at-start .pre .0) _ _ _ _ (at-index .index .ensures .0) (at-misplaced .misplaced .ensures) (at-if1 .if1 .left)
-    _ (at-any-overlap .any-overlap .ensures) (at-if2 .if2 .left) _ (at-any-early .any-early .ensures) (c .if3 .left)
+    says-nothing (at-start .pre .0) _ _ (at-index .index .ensures .0) (at-misplaced .misplaced .ensures) (at-if1 .if1 .left)
+    (at-any-overlap .any-overlap .ensures) (at-if2 .if2 .left) (at-any-early .any-early .ensures) (c .if3 .left)
 
 pub trouble-spec : {M : Type 1} → statement M
 trouble-spec =

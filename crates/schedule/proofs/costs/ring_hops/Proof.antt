@@ -8,8 +8,6 @@ use borrow.Author.Tests.{lt-ltb, le-ltb}
 use Rattle.etf.specs.Topology.{difference, ringHops}
 use Rattle.schedule.proofs.costs.ring_hops.Statement.{statement}
 use Rattle.schedule.proofs.costs.ring_hops.Tie as tie
-use Rattle.schedule.proofs.costs.ring_hops.Reads as reads
-use Rattle.schedule.proofs.costs.ring_hops.Lts as lts
 
 module _ (n p q d : ℕ) where
   above : p < q → d ≡ q - p → q < n → (d ≡ difference p q) × (d < n)
@@ -29,7 +27,7 @@ module _ (n p q d : ℕ) where
   other-way e h = omega arith
 
 -- the difference as the code finds it
-found : (c : lts.Joined1 reads.Pre reads.Post) →
+found : (c : tie.Joined1) →
     (c .if1 .d ≡ difference (c .before .args .p) (c .before .args .q)) × (c .if1 .d < c .before .args .n)
 found c = ⊎-elim (λ w. above _ _ _ _ (w .0 .taken) (w .1) (search needs)) (λ w. below _ _ _ _ (w .0 .left) (w .1) (search needs)) (c .if1 .came)
 

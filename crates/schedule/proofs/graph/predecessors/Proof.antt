@@ -2,16 +2,17 @@
 use mathlib.Core.Path.{_≡_, refl, ap, sym, _∙_}
 use mathlib.Core.Logic.{_⊎_, inl, inr}
 use mathlib.Core.List.{List}
-use Prim.Native.Nat.{ℕ, zero, suc, _+_, _-_, _≤_, _<_}
+use Prim.Native.Nat.{ℕ, _+_, _-_, _≤_, _<_}
 use native.Mathlib.Omega.{arith}
-use native.Mathlib.Numerals.{add-one}
 use borrow.Author.Needs.{needs}
 use lib.Dec.{eqb, eqb→eq}
-use lib.ListN.{length, getD, set, replicate, length-set, getD-replicate}
+use lib.ListN.{length, getD, set, replicate, length-set}
 use lib.Seq.{getD-set-same, getD-set-other}
-use Rattle.etf.specs.Laws.Tests.{le-or-lt, eq→eqb, fails}
-use Rattle.etf.specs.Laws.Sums.{sum, one-if-yes, one-if-no, one-if-most}
+use Rattle.job.specs.Laws.Lists.{zeros-at}
+use Rattle.etf.specs.Laws.Tests.{eq→eqb, fails, same-or-not}
+use Rattle.etf.specs.Laws.Sums.{sum, one-if, one-if-yes, one-if-no}
 use Rattle.schedule.specs.Pass.{edgesTo}
+use Rattle.schedule.specs.Laws.Most.{sum-more, count-most}
 use Rattle.schedule.proofs.graph.predecessors.Statement.{statement}
 use Rattle.schedule.proofs.graph.predecessors.Tie as tie
 
@@ -20,43 +21,33 @@ record Counted (to counts : List ℕ) (k : ℕ) : Type 0 where
   size : length counts ≡ 256
   each : (T : ℕ) → T < 256 → getD counts T 0 ≡ edgesTo to k T
 
-edges-most : (to : List ℕ) (k T : ℕ) → edgesTo to k T ≤ k
-unfolding edgesTo sum
-edges-most to zero T = omega arith
-edges-most to (suc k) T = omega (arith, edges-most to k T, one-if-most (eqb (getD to k 0) T))
-
-edges-none : (to : List ℕ) (T : ℕ) → edgesTo to 0 T ≡ 0
-unfolding edgesTo sum
-edges-none to T = refl
-
 -- edge k goes to task T, or to another
-edges-here : (to : List ℕ) (k T : ℕ) → getD to k 0 ≡ T → edgesTo to (k + 1) T ≡ suc (edgesTo to k T)
-unfolding edgesTo sum
-edges-here to k T e = rw add-one (omega (arith, one-if-yes (eqb (getD to k 0) T) (eq→eqb (getD to k 0) T e)))
+edges-here : (to : List ℕ) (k T : ℕ) → getD to k 0 ≡ T → edgesTo to (k + 1) T ≡ edgesTo to k T + 1
+unfolding edgesTo
+edges-here to k T e =
+    omega (arith, sum-more k (λ i. one-if (eqb (getD to i 0) T)), one-if-yes (eqb (getD to k 0) T) (eq→eqb (getD to k 0) T e))
 
 edges-past : (to : List ℕ) (k T : ℕ) → (getD to k 0 ≡ T → ⊥) → edgesTo to (k + 1) T ≡ edgesTo to k T
-unfolding edgesTo sum
+unfolding edgesTo
 edges-past to k T n =
-    rw add-one (omega (arith, one-if-no (eqb (getD to k 0) T) (fails (eqb (getD to k 0) T) (λ h. n (eqb→eq (getD to k 0) T h)))))
+    omega (arith, sum-more k (λ i. one-if (eqb (getD to i 0) T)), one-if-no (eqb (getD to k 0) T) (fails (eqb (getD to k 0) T) (λ h. n (eqb→eq (getD to k 0) T h))))
 
 begun : (to counts : List ℕ) → counts ≡ replicate 256 0 → Counted to counts 0
-begun to counts e = record { size = ap length e; each = λ T h. ap (λ (s : List ℕ). getD s T 0) e ∙ getD-replicate 256 T 0 0 h ∙ sym (edges-none to T) }
+unfolding edgesTo sum
+begun to counts e = record { size = ap length e; each = λ T h. ap (λ (s : List ℕ). getD s T 0) e ∙ zeros-at 256 T }
 
 module _ (to counts : List ℕ) (k : ℕ) (C : Counted to counts k) where
   small : (t : ℕ) → t < 256 → getD counts t 0 ≤ k
-  small t h = omega (arith, C .each t h, edges-most to k t)
+  unfolding edgesTo
+  small t h = omega (arith, C .each t h, count-most k (λ i. eqb (getD to i 0) t))
 
   more : (t : ℕ) → t ≡ getD to k 0 → t < 256 → Counted to (set counts t (getD counts t 0 + 1)) (k + 1)
-  more t e h = record { size = length-set counts t (getD counts t 0 + 1) ∙ C .size; each = λ T p. go T p (le-or-lt t T) (le-or-lt T t) }
+  more t e h = record { size = length-set counts t (getD counts t 0 + 1) ∙ C .size; each = λ T p. go T p (same-or-not T t) }
     where
-      go : (T : ℕ) → T < 256 → (t ≤ T) ⊎ (T < t) → (T ≤ t) ⊎ (t < T) → getD (set counts t (getD counts t 0 + 1)) T 0 ≡ edgesTo to (k + 1) T
-      go T p (inl a) (inl b) =
-          let d : T ≡ t = omega arith in
+      go : (T : ℕ) → T < 256 → (T ≡ t) ⊎ (T ≡ t → ⊥) → getD (set counts t (getD counts t 0 + 1)) T 0 ≡ edgesTo to (k + 1) T
+      go T p (inl d) =
           rw d (omega (arith, getD-set-same counts t (getD counts t 0 + 1) 0 (omega (arith, C .size)), C .each t h, edges-here to k t (sym e)))
-      go T p (inr a) b =
-          omega (arith, getD-set-other counts t T (getD counts t 0 + 1) 0 (λ z. omega arith), C .each T p, edges-past to k T (λ z. omega arith))
-      go T p (inl a) (inr b) =
-          omega (arith, getD-set-other counts t T (getD counts t 0 + 1) 0 (λ z. omega arith), C .each T p, edges-past to k T (λ z. omega arith))
+      go T p (inr d) = omega (arith, getD-set-other counts t T (getD counts t 0 + 1) 0 d, C .each T p, edges-past to k T (λ z. d (sym (e ∙ z))))
 
 abbrev Inv-loop : tie.InvT-loop
 Inv-loop to edges counts₀ k₀ counts k = (k ≤ edges) × (edges ≤ 1024) × (edges ≤ length to) × Counted to counts k

@@ -9,9 +9,9 @@ use borrow.Author.Needs.{needs}
 use borrow.Author.Tests.{le-leb, lt-leb, eq-eqb, ne-eqb}
 use lib.ListN.{getD}
 use Rattle.schedule.specs.declared.planner.Pair.{Pair}
-use Rattle.schedule.specs.Pass.{never, noPair, pairAt, firstBest, rowOf, canStart}
-use Rattle.schedule.specs.Pass.{searched}
-use Rattle.schedule.specs.Laws.Tried.{for-values, row-late, search-stays, search-front, search-none}
+use Rattle.schedule.specs.Pass.{never, noPair, pairAt, firstBest, rowOf, canStart, searched}
+use Rattle.schedule.specs.Laws.Lists.{for-values}
+use Rattle.schedule.specs.Laws.Tried.{row-late, search-stays, search-front, search-none}
 use Rattle.schedule.proofs.planner.choose.Statement.{statement}
 use Rattle.schedule.proofs.planner.choose.Tie as tie
 
@@ -20,7 +20,7 @@ module _ (clock : ℕ) (waiting latest arrivals free : List ℕ) (count : ℕ) w
   unfolding rowOf
   no-processor e t k =
       sym (search-stays clock waiting latest (rowOf clock arrivals free count) t k noPair
-      (λ U. for-values (λ x. never ≤ x .start) (λ i. pairAt clock arrivals U (getD free i 0)) 0 count (λ i p q. absurd (omega arith))))
+      (λ U. for-values (λ i. pairAt clock arrivals U (getD free i 0)) (λ x. never ≤ x .start) 0 count (λ i p q. absurd (omega arith))))
 
   -- the search over the tasks from task t to before task n
   unfoldable from : ℕ → ℕ → Pair → Pair

@@ -9,7 +9,7 @@ use Rattle.etf.specs.Lists.{_∈_, upto}
 use Rattle.etf.specs.Laws.Lists.{upto-of, filter-of}
 use Rattle.schedule.specs.declared.planner.Moment.{Moment}
 use Rattle.schedule.specs.Pass.{Surveyed, freeAmong}
-use Rattle.schedule.specs.Laws.Look.{value-in}
+use Rattle.schedule.specs.Laws.Lists.{value-in}
 use Rattle.schedule.proofs.planner.look.Statement.{statement}
 use Rattle.schedule.proofs.planner.look.Tie as tie
 

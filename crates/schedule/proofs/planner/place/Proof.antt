@@ -1,10 +1,9 @@
 -- `planner::place` writes the pair down, sends along the task's edges and skips the placed tasks: its promise is the three promises together.
 use Prim.Native.Nat.{ℕ, _≤_}
-use mathlib.Core.Path.{_≡_, subst, sym}
 use mathlib.Core.List.{List}
 use native.Mathlib.Omega.{arith}
 use borrow.Author.Needs.{needs}
-use lib.ListN.{length, getD, set}
+use lib.ListN.{getD, set}
 use Rattle.etf.specs.Laws.Sums.{sum, one-if}
 use Rattle.schedule.specs.declared.planner.Pair.{Pair}
 use Rattle.schedule.specs.Pass.{sentTo, placedMark, Put, Sent, Skipped, Placed}

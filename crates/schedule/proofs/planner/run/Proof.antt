@@ -1,13 +1,14 @@
 -- `planner::run` plans: after each round the arrays are in step with the rule (`Going`), for every platform that the job's arrays may be of.
-use Prim.Native.Nat.{ℕ, zero, suc, _+_, _*_, _-_, _≤_, _<_}
+use Prim.Native.Nat.{ℕ, _+_, _*_, _-_, _≤_, _<_}
 use mathlib.Core.Path.{_≡_, refl, sym}
 use mathlib.Core.Logic.{⊎-elim}
 use mathlib.Core.List.{List, []}
 use native.Mathlib.Omega.{arith}
 use borrow.Author.Needs.{needs}
-use lib.ListN.{length, getD, replicate}
+use lib.ListN.{length, getD}
 use Rattle.job.specs.declared.Platform.{Platform}
 use Rattle.job.specs.Write.{heldJob}
+use Rattle.job.specs.Laws.Lists.{zeros-at}
 use Rattle.etf.specs.Instance.{Instance}
 use Rattle.etf.specs.OfJob.{instance}
 use Rattle.schedule.specs.declared.planner.Pair.{Pair}
@@ -16,37 +17,24 @@ use Rattle.schedule.specs.Laws.Given.{given, held-tasks, row-size, cost-
 use Rattle.schedule.specs.Laws.Going.{Going, Setting, setting, going-start, going-done, more-rounds, clock-small, few-processors, few-tasks, arrivals-room, going-on, task-below, processor-below, finish-small, run-rises, run-within, enough-waiting, going-placed}
 use Rattle.schedule.proofs.planner.run.Statement.{statement}
 use Rattle.schedule.proofs.planner.run.Tie as tie
-use Rattle.schedule.proofs.planner.run.Reads as reads
-use Rattle.schedule.proofs.planner.run.Lts as lts
-use Rattle.schedule.proofs.graph.predecessors.Reads as predecessors-reads
-use Rattle.schedule.proofs.graph.runs.Reads as runs-reads
-use Rattle.schedule.proofs.number.index.Reads as index-reads
-use Rattle.schedule.proofs.planner.look.Reads as look-reads
-use Rattle.schedule.proofs.planner.place.Reads as place-reads
-
-zeros : (n i : ℕ) → getD {A = ℕ} (replicate n 0) i 0 ≡ 0
-zeros zero i = refl
-zeros (suc n) zero = refl
-zeros (suc n) (suc i) = zeros n i
 
 -- the same under other names
-carried : (I : Instance) (l : ℕ) (from to counts starts₀ processors₀ arrivals₀ starts processors arrivals waiting latest busy : List ℕ) (clock e low rounds : ℕ)
+carried : {I : Instance} {l : ℕ} {from to counts starts₀ processors₀ arrivals₀ starts processors arrivals waiting latest busy : List ℕ} {clock e low rounds : ℕ}
     → Going I l from to counts starts₀ processors₀ arrivals₀ starts processors arrivals waiting latest busy clock e low rounds
-    → (starts′ processors′ arrivals′ waiting′ latest′ busy′ : List ℕ) (clock′ e′ low′ : ℕ)
+    → {starts′ processors′ arrivals′ waiting′ latest′ busy′ : List ℕ} {clock′ e′ low′ : ℕ}
     → starts′ ≡ starts → processors′ ≡ processors → arrivals′ ≡ arrivals → waiting′ ≡ waiting → latest′ ≡ latest → busy′ ≡ busy → clock′ ≡ clock → e′ ≡ e → low′ ≡ low
     → Going I l from to counts starts₀ processors₀ arrivals₀ starts′ processors′ arrivals′ waiting′ latest′ busy′ clock′ e′ low′ rounds
-carried I l from to counts starts₀ processors₀ arrivals₀ starts processors arrivals waiting latest busy clock e low rounds g
-    starts′ processors′ arrivals′ waiting′ latest′ busy′ clock′ e′ low′ hs hp ha hw hl hb hc he hm = rw (hs, hp, ha, hw, hl, hb, hc, he, hm) g
+carried g hs hp ha hw hl hb hc he hm = rw (hs, hp, ha, hw, hl, hb, hc, he, hm) g
 
 -- what the graph's arrays are made from
-module _ (p : Platform) (m l : ℕ) (durations from to counts : List ℕ) (costs : List (List ℕ)) (A : InArrays p m l durations from to counts costs) where
+module _ {p : Platform} {m l : ℕ} {durations from to counts : List ℕ} {costs : List (List ℕ)} (A : InArrays p m l durations from to counts costs) where
   before-runs : (m ≤ 256) × (l ≤ length from) × ((i k : ℕ) → i ≤ k → k < l → getD from i 0 ≤ getD from k 0)
   before-runs =
-      let g = given p m l durations from to counts costs A in
-      (omega (arith, g .few-tasks, held-tasks p m l durations from to counts costs A), omega (arith, g .few-edges, A .from-size), g .rising)
+      let g = given A in
+      (omega (arith, g .few-tasks, held-tasks A), omega (arith, g .few-edges, A .from-size), g .rising)
 
   before-predecessors : (l ≤ 1024) × (l ≤ length to)
-  before-predecessors = let g = given p m l durations from to counts costs A in (g .few-edges, omega (arith, g .few-edges, A .to-size))
+  before-predecessors = let g = given A in (g .few-edges, omega (arith, g .few-edges, A .to-size))
 
 abbrev Inv-loop : tie.InvT-loop
 Inv-loop tasks edges durations from to counts starts₀ processors₀ arrivals₀ costs n runs waiting₀ latest₀ busy₀ clock₀ end₀ low₀ rounds₀ starts processors arrivals waiting latest busy clock end low rounds =
@@ -60,8 +48,8 @@ abbrev μ-loop : tie.MeasureT-loop
     2 * tasks - rounds
 
 -- in the loop: the setting, and what the invariant says of the platform that the call is for
-module _ (q : lts.In-loop (index-reads.Asked, index-reads.Learnt, runs-reads.Asked, runs-reads.Learnt, predecessors-reads.Asked, predecessors-reads.Learnt, look-reads.Asked, look-reads.Learnt, place-reads.Asked, place-reads.Learnt) reads.Pre reads.Post Inv-loop μ-loop) where
-  abbrev begun : lts.Start (index-reads.Asked, index-reads.Learnt, runs-reads.Asked, runs-reads.Learnt, predecessors-reads.Asked, predecessors-reads.Learnt, look-reads.Asked, look-reads.Learnt, place-reads.Asked, place-reads.Learnt) reads.Pre reads.Post Inv-loop μ-loop
+module _ (q : tie.In-loop Inv-loop μ-loop) where
+  abbrev begun : tie.Start Inv-loop μ-loop
   begun = q .before .before .before .before .before .before .before .before .before .before .before .before
 
   abbrev n-is : begun .args .platform .processors ≡ q .before .before .before .before .index .result
@@ -72,7 +60,7 @@ module _ (q : lts.In-loop (index-reads.Asked, index-reads.Learnt, runs-reads.Ask
 
   here : Setting I (begun .args .tasks) (q .before .before .before .before .index .result) (begun .args .edges)
       (begun .args .durations .now) (begun .args .from .now) (begun .args .to .now) (begun .args .counts .now) (begun .args .t8)
-  here = setting _ _ _ _ _ _ _ _ _ n-is (begun .pre .0)
+  here = setting (begun .pre .0) n-is
 
   going : Going I (begun .args .edges) (begun .args .from .now) (begun .args .to .now) (begun .args .counts .now)
       (begun .args .starts .now) (begun .args .processors .now) (begun .args .arrivals .now)
@@ -81,11 +69,11 @@ module _ (q : lts.In-loop (index-reads.Asked, index-reads.Learnt, runs-reads.Ask
   going = q .before .loop .inv .6 _ n-is (begun .pre .0) (begun .pre .1)
 
 -- where the look found a pair that is placed
-module _ (w : lts.Then1 (index-reads.Asked, index-reads.Learnt, runs-reads.Asked, runs-reads.Learnt, predecessors-reads.Asked, predecessors-reads.Learnt, look-reads.Asked, look-reads.Learnt, place-reads.Asked, place-reads.Learnt) reads.Pre reads.Post Inv-loop μ-loop) where
-  abbrev at-look : lts.After-look (index-reads.Asked, index-reads.Learnt, runs-reads.Asked, runs-reads.Learnt, predecessors-reads.Asked, predecessors-reads.Learnt, look-reads.Asked, look-reads.Learnt, place-reads.Asked, place-reads.Learnt) reads.Pre reads.Post Inv-loop μ-loop
+module _ (w : tie.Then1 Inv-loop μ-loop) where
+  abbrev at-look : tie.After-look Inv-loop μ-loop
   at-look = w .before .before .before
 
-  abbrev q : lts.In-loop (index-reads.Asked, index-reads.Learnt, runs-reads.Asked, runs-reads.Learnt, predecessors-reads.Asked, predecessors-reads.Learnt, look-reads.Asked, look-reads.Learnt, place-reads.Asked, place-reads.Learnt) reads.Pre reads.Post Inv-loop μ-loop
+  abbrev q : tie.In-loop Inv-loop μ-loop
   q = at-look .before .before .before .before .before
 
   abbrev pair : Pair
@@ -96,28 +84,28 @@ module _ (w : lts.Then1 (index-reads.Asked, index-reads.Learnt, runs-reads.Asked
 
   task-low : pair .task < begun q .args .tasks
   task-low =
-      task-below _ _ _ _ _ _ _ _ _ (here q) _ _ _ (begun q .pre .1) _ _ _ _ _ _ _ _ _ _ (going q) (q .loop-test .taken) _ (at-look .look .ensures) in-time
+      task-below (here q) (begun q .pre .1) (going q) (q .loop-test .taken) (at-look .look .ensures) in-time
 
   processor-low : pair .processor < 16
   processor-low =
-      processor-below _ _ _ _ _ _ _ _ _ (here q) _ _ _ (begun q .pre .1) _ _ _ _ _ _ _ _ _ _ (going q) (q .loop-test .taken) _ (at-look .look .ensures) in-time
+      processor-below (here q) (begun q .pre .1) (going q) (q .loop-test .taken) (at-look .look .ensures) in-time
 
   finish-low : pair .start + getD (begun q .args .durations .now) (pair .task) 0 ≤ 460000000
   finish-low =
-      finish-small _ _ _ _ _ _ _ _ _ (here q) _ _ _ (begun q .pre .1) _ _ _ _ _ _ _ _ _ _ (going q) (q .loop-test .taken) _ (at-look .look .ensures) in-time
+      finish-small (here q) (begun q .pre .1) (going q) (q .loop-test .taken) (at-look .look .ensures) in-time
 
   row-long : length (getD (begun q .args .t8) (pair .processor) []) ≡ 16
-  row-long = row-size _ _ _ _ _ _ _ _ (begun q .pre .0) (pair .processor) processor-low
+  row-long = row-size (begun q .pre .0) (pair .processor) processor-low
 
   tasks-few : begun q .args .tasks ≤ 256
-  tasks-few = few-tasks _ _ _ _ _ _ _ _ _ (here q) _ _ _ (begun q .pre .1) _ _ _ _ _ _ _ _ _ _ (going q) (q .loop-test .taken)
+  tasks-few = few-tasks (here q) (begun q .pre .1) (going q) (q .loop-test .taken)
 
 -- after the round: the arrays as they are, for every platform
-module _ (c : lts.Joined1 (index-reads.Asked, index-reads.Learnt, runs-reads.Asked, runs-reads.Learnt, predecessors-reads.Asked, predecessors-reads.Learnt, look-reads.Asked, look-reads.Learnt, place-reads.Asked, place-reads.Learnt) reads.Pre reads.Post Inv-loop μ-loop) where
-  abbrev looked : lts.After-look (index-reads.Asked, index-reads.Learnt, runs-reads.Asked, runs-reads.Learnt, predecessors-reads.Asked, predecessors-reads.Learnt, look-reads.Asked, look-reads.Learnt, place-reads.Asked, place-reads.Learnt) reads.Pre reads.Post Inv-loop μ-loop
+module _ (c : tie.Joined1 Inv-loop μ-loop) where
+  abbrev looked : tie.After-look Inv-loop μ-loop
   looked = c .before .before .before
 
-  abbrev q₁ : lts.In-loop (index-reads.Asked, index-reads.Learnt, runs-reads.Asked, runs-reads.Learnt, predecessors-reads.Asked, predecessors-reads.Learnt, look-reads.Asked, look-reads.Learnt, place-reads.Asked, place-reads.Learnt) reads.Pre reads.Post Inv-loop μ-loop
+  abbrev q₁ : tie.In-loop Inv-loop μ-loop
   q₁ = looked .before .before .before .before .before
 
   next : (p : Platform) → p .processors ≡ q₁ .before .before .before .before .index .result
@@ -128,38 +116,38 @@ module _ (c : lts.Joined1 (index-reads.Asked, index-reads.Learnt, runs-reads.Ask
       (begun q₁ .args .starts .now) (begun q₁ .args .processors .now) (begun q₁ .args .arrivals .now)
       (c .if1 .starts) (c .if1 .processors) (c .if1 .arrivals) (c .if1 .waiting) (c .if1 .latest) (c .if1 .busy) (c .if1 .clock) (c .if1 .end) (c .if1 .low) (q₁ .before .loop .rounds + 1)
   next p e A R =
-      let X = setting p _ _ _ _ _ _ _ _ e A in
+      let X = setting A e in
       let Y = q₁ .before .loop .inv .6 p e A R in
       let more = q₁ .loop-test .taken in
       let runs = q₁ .before .before .before .runs .ensures in
       ⊎-elim
-      (λ w. carried _ _ _ _ _ _ _ _ _ _ _ _ _ _ _ _ _ _
-      (going-placed _ _ _ _ _ _ _ _ _ X _ _ _ R _ _ _ _ _ _ _ _ _ _ Y more _ (looked .look .ensures) (omega (arith, w .0 .taken)) _ runs _ refl _ _ _ _ _ _ _ _ (w .11 .ensures)
-      (w .11 .kept .1 .1 .1 .1 .1 .1 .1 .1 .1 .1 .1 .1 .0) (w .11 .kept .1 .1 .1 .1 .1 .1 .1 .1 .1 .1 .1 .1 .1 .0) (w .11 .kept .1 .1 .1 .1 .1 .1 .1 .1 .1 .1 .1 .1 .1 .1 .0) (omega (arith, w .21 .taken)))
-      _ _ _ _ _ _ _ _ _ (w .22) (w .23) (w .24) (w .25) (w .26) (w .27) (w .28) (w .29) (w .30))
+      (λ w. carried
+      (going-placed X R Y more (looked .look .ensures) (omega (arith, w .0 .taken)) runs refl (w .11 .ensures) (omega (arith, w .21 .taken))
+      (w .11 .kept .1 .1 .1 .1 .1 .1 .1 .1 .1 .1 .1 .1 .0) (w .11 .kept .1 .1 .1 .1 .1 .1 .1 .1 .1 .1 .1 .1 .1 .0) (w .11 .kept .1 .1 .1 .1 .1 .1 .1 .1 .1 .1 .1 .1 .1 .1 .0))
+      (w .22) (w .23) (w .24) (w .25) (w .26) (w .27) (w .28) (w .29) (w .30))
       (⊎-elim
-      (λ w. carried _ _ _ _ _ _ _ _ _ _ _ _ _ _ _ _ _ _
-      (going-placed _ _ _ _ _ _ _ _ _ X _ _ _ R _ _ _ _ _ _ _ _ _ _ Y more _ (looked .look .ensures) (omega (arith, w .0 .taken)) _ runs _ refl _ _ _ _ _ _ _ _ (w .11 .ensures)
-      (w .11 .kept .1 .1 .1 .1 .1 .1 .1 .1 .1 .1 .1 .1 .0) (w .11 .kept .1 .1 .1 .1 .1 .1 .1 .1 .1 .1 .1 .1 .1 .0) (w .11 .kept .1 .1 .1 .1 .1 .1 .1 .1 .1 .1 .1 .1 .1 .1 .0) (omega (arith, w .21 .left)))
-      _ _ _ _ _ _ _ _ _ (w .22) (w .23) (w .24) (w .25) (w .26) (w .27) (w .28) (w .29) (w .30))
-      (λ w. carried _ _ _ _ _ _ _ _ _ _ _ _ _ _ _ _ _ _
-      (going-on _ _ _ _ _ _ _ _ _ X _ _ _ R _ _ _ _ _ _ _ _ _ _ Y more _ (looked .look .ensures) (omega (arith, w .0 .left)))
-      _ _ _ _ _ _ _ _ _ (w .1) (w .2) (w .3) (w .4) (w .5) (w .6) (w .7) (w .8) (w .9)))
+      (λ w. carried
+      (going-placed X R Y more (looked .look .ensures) (omega (arith, w .0 .taken)) runs refl (w .11 .ensures) (omega (arith, w .21 .left))
+      (w .11 .kept .1 .1 .1 .1 .1 .1 .1 .1 .1 .1 .1 .1 .0) (w .11 .kept .1 .1 .1 .1 .1 .1 .1 .1 .1 .1 .1 .1 .1 .0) (w .11 .kept .1 .1 .1 .1 .1 .1 .1 .1 .1 .1 .1 .1 .1 .1 .0))
+      (w .22) (w .23) (w .24) (w .25) (w .26) (w .27) (w .28) (w .29) (w .30))
+      (λ w. carried
+      (going-on X R Y more (looked .look .ensures) (omega (arith, w .0 .left)))
+      (w .1) (w .2) (w .3) (w .4) (w .5) (w .6) (w .7) (w .8) (w .9)))
       (c .if1 .came)
 
 index-requires : tie.Need-index-requires Inv-loop μ-loop
 index-requires c κs = search needs
 
 runs-requires : tie.Need-runs-requires Inv-loop μ-loop
-runs-requires c κs = before-runs _ _ _ _ _ _ _ _ (c .before .before .before .before .before .before .before .before .pre .0)
+runs-requires c κs = before-runs (c .before .before .before .before .before .before .before .before .pre .0)
 
 predecessors-requires : tie.Need-predecessors-requires Inv-loop μ-loop
-predecessors-requires c κs = before-predecessors _ _ _ _ _ _ _ _ (c .before .before .before .before .before .before .before .before .before .pre .0)
+predecessors-requires c κs = before-predecessors (c .before .before .before .before .before .before .before .before .before .pre .0)
 
 loop-holds : tie.Need-loop-holds Inv-loop μ-loop
 loop-holds c =
     let counted = c .predecessors .ensures in
-    (refl, refl, refl, counted .0, refl, refl, λ p e A R. going-start _ _ _ _ _ _ _ _ _ (setting p _ _ _ _ _ _ _ _ e A) _ _ _ R _ _ _ (counted .0) (counted .1) refl (zeros 256) refl (zeros 16))
+    (refl, refl, refl, counted .0, refl, refl, λ p e A R. going-start (setting A e) R (counted .0) (counted .1) refl (zeros-at 256) refl (zeros-at 16))
 
 slice-aggregate-look : tie.Need-slice-aggregate-look Inv-loop μ-loop
 slice-aggregate-look c = search needs
@@ -175,12 +163,12 @@ look-requires c κs =
     let q = c .before .before .before .before in
     let inv = q .before .loop .inv in (
       (
-        few-processors _ _ _ _ _ _ _ _ _ (here q) _ _ _ (begun q .pre .1) _ _ _ _ _ _ _ _ _ _ (going q) (q .loop-test .taken),
-        clock-small _ _ _ _ _ _ _ _ _ (here q) _ _ _ (begun q .pre .1) _ _ _ _ _ _ _ _ _ _ (going q) (q .loop-test .taken),
+        few-processors (here q) (begun q .pre .1) (going q) (q .loop-test .taken),
+        clock-small (here q) (begun q .pre .1) (going q) (q .loop-test .taken),
         omega (arith, q .loop-test .taken),
-        few-tasks _ _ _ _ _ _ _ _ _ (here q) _ _ _ (begun q .pre .1) _ _ _ _ _ _ _ _ _ _ (going q) (q .loop-test .taken),
+        few-tasks (here q) (begun q .pre .1) (going q) (q .loop-test .taken),
       ),
-      (inv .5, inv .3, inv .4, arrivals-room _ _ _ _ _ _ _ _ _ (here q) _ _ _ (begun q .pre .1) _ _ _ _ _ _ _ _ _ _ (going q) (q .loop-test .taken)),
+      (inv .5, inv .3, inv .4, arrivals-room (here q) (begun q .pre .1) (going q) (q .loop-test .taken)),
     )
 
 mul-finish : tie.Need-mul-finish Inv-loop μ-loop
@@ -238,22 +226,22 @@ place-requires c κs =
     let more = q .loop-test .taken in
     let runs = q .before .before .before .runs .ensures in
     let low = task-low w in
-    let within = run-within _ _ _ _ _ _ _ _ _ (here q) _ _ _ R _ _ _ _ _ _ _ _ _ _ (going q) more _ (look .look .ensures) (in-time w) _ runs in
+    let within = run-within (here q) R (going q) more (look .look .ensures) (in-time w) runs in
     let few = here q .arrays .few-edges in (
       (omega (arith, low, inv .0, R .for-starts), omega (arith, low, inv .1, R .for-processors), omega (arith, low, tasks-few w), processor-low w, omega (arith, more), tasks-few w),
       (
         (
-          run-rises _ _ _ _ _ _ _ _ _ (here q) _ _ _ R _ _ _ _ _ _ _ _ _ _ (going q) more _ (look .look .ensures) (in-time w) _ runs,
+          run-rises (here q) R (going q) more (look .look .ensures) (in-time w) runs,
           omega (arith, within, few, A .to-size),
           omega (arith, within, few, A .counts-size),
-          few-processors _ _ _ _ _ _ _ _ _ (here q) _ _ _ R _ _ _ _ _ _ _ _ _ _ (going q) more,
+          few-processors (here q) R (going q) more,
           finish-low w,
         ),
         (
-          (arrivals-room _ _ _ _ _ _ _ _ _ (here q) _ _ _ R _ _ _ _ _ _ _ _ _ _ (going q) more, inv .3, inv .4, inv .5, row-long w),
+          (arrivals-room (here q) R (going q) more, inv .3, inv .4, inv .5, row-long w),
           (
-            (λ P. cost-small _ _ _ _ _ _ _ _ A _ P, λ k h. here q .arrays .few-messages k (omega (arith, within, h))),
-            enough-waiting _ _ _ _ _ _ _ _ _ (here q) _ _ _ R _ _ _ _ _ _ _ _ _ _ (going q) more _ (look .look .ensures) (in-time w) _ runs,
+            (λ P. cost-small A _ P, λ k h. here q .arrays .few-messages k (omega (arith, within, h))),
+            enough-waiting (here q) R (going q) more (look .look .ensures) (in-time w) runs,
           ),
         ),
       ),
@@ -262,12 +250,12 @@ place-requires c κs =
 add-rounds : tie.Need-add-rounds Inv-loop μ-loop
 add-rounds c =
     let q = c .before .before .before .before .before .before .before .before in
-    record { fits = omega (arith, few-tasks _ _ _ _ _ _ _ _ _ (here q) _ _ _ (begun q .pre .1) _ _ _ _ _ _ _ _ _ _ (going q) (q .loop-test .taken), more-rounds _ _ _ _ _ _ _ _ _ (here q) _ _ _ (begun q .pre .1) _ _ _ _ _ _ _ _ _ _ (going q) (q .loop-test .taken)) }
+    record { fits = omega (arith, few-tasks (here q) (begun q .pre .1) (going q) (q .loop-test .taken), more-rounds (here q) (begun q .pre .1) (going q) (q .loop-test .taken)) }
 
 loop-less : tie.Need-loop-less Inv-loop μ-loop
 loop-less c =
     let q = c .before .before .before .before .before .before .before .before in
-    omega (arith, more-rounds _ _ _ _ _ _ _ _ _ (here q) _ _ _ (begun q .pre .1) _ _ _ _ _ _ _ _ _ _ (going q) (q .loop-test .taken))
+    omega (arith, more-rounds (here q) (begun q .pre .1) (going q) (q .loop-test .taken))
 
 loop-again : tie.Need-loop-again Inv-loop μ-loop
 loop-again c =
@@ -288,7 +276,7 @@ returns c =
     let at = c .before in
     let begun = at .before .before .before .before .before .before .before .before .before .before .before in
     let e = sym (at .before .before .before .index .ensures .0) in
-    going-done _ _ _ _ _ _ _ _ _ (setting _ _ _ _ _ _ _ _ _ e (begun .pre .0)) _ _ _ (begun .pre .1) _ _ _ _ _ _ _ _ _ _ (at .loop .inv .6 _ e (begun .pre .0) (begun .pre .1)) (c .loop-test .left)
+    going-done (setting (begun .pre .0) e) (begun .pre .1) (at .loop .inv .6 _ e (begun .pre .0) (begun .pre .1)) (c .loop-test .left)
 
 pub run-spec : {M : Type 1} → statement M
 run-spec =

@@ -8,9 +8,10 @@ use borrow.Author.Needs.{needs}
 use lib.ListN.{length, getD, set, length-set}
 use lib.Seq.{getD-set-same, getD-set-other}
 use Rattle.job.specs.Number.{pick}
+use Rattle.etf.specs.Laws.Tests.{same-or-not}
 use Rattle.etf.specs.Laws.Sums.{sum, one-if, sum-grows}
 use Rattle.schedule.specs.Pass.{most, sentTo, Raised, Sent}
-use Rattle.schedule.specs.Laws.Sending.{same-or-not, most-unsent, sum-unsent, most-sent, most-kept, sum-sent, sum-kept, unraised}
+use Rattle.schedule.specs.Laws.Sending.{most-unsent, sum-unsent, most-sent, most-kept, sum-sent, sum-kept, unraised}
 use Rattle.schedule.proofs.planner.send.Statement.{statement}
 use Rattle.schedule.proofs.planner.send.Tie as tie
 

@@ -1,6 +1,5 @@
 -- `planner::survey`: the loop keeps the next moment and the free processors among those looked at; a turn adds one processor to each.
-use mathlib.Core.Bool.{Bool, true, false}
-use mathlib.Core.Path.{_≡_, refl, ap, sym, _∙_}
+use mathlib.Core.Path.{_≡_, refl, sym, _∙_}
 use mathlib.Core.Logic.{⊎-elim}
 use mathlib.Core.List.{List, [], _∷_, _++_, append-nil}
 use Prim.Native.Nat.{ℕ, _+_, _-_, _≤_, _<_, min}
@@ -11,23 +10,13 @@ use borrow.Author.Tests.{le-leb, lt-leb}
 use lib.Dec.{leb}
 use lib.ListN.{length, getD, set, length-set}
 use lib.Seq.{getD-set-same, getD-set-other}
-use Rattle.job.specs.Number.{pick}
 use Rattle.job.specs.Write.{values}
 use Rattle.job.specs.Laws.Values.{values-more, values-same}
 use Rattle.etf.specs.Lists.{upto, filter}
+use Rattle.etf.specs.Laws.Lists.{filter-append}
 use Rattle.schedule.specs.Pass.{Surveyed, soonest, freeAmong}
 use Rattle.schedule.proofs.planner.survey.Statement.{statement}
 use Rattle.schedule.proofs.planner.survey.Tie as tie
-
--- the members of two lists, one after the other, that pass a test
-filter-append : (p : ℕ → Bool) (s t : List ℕ) → filter p (s ++ t) ≡ filter p s ++ filter p t
-unfolding filter
-filter-append p [] t = refl
-filter-append p (x ∷ s) t = go (p x) (filter-append p s t)
-  where
-    go : (b : Bool) → filter p (s ++ t) ≡ filter p s ++ filter p t → pick b (x ∷ filter p (s ++ t)) (filter p (s ++ t)) ≡ pick b (x ∷ filter p s) (filter p s) ++ filter p t
-    go true e = ap (λ (l : List ℕ). x ∷ l) e
-    go false e = e
 
 module _ (busy : List ℕ) (clock p : ℕ) where
   free-more : getD busy p 0 ≤ clock → freeAmong busy clock (p + 1) ≡ freeAmong busy clock p ++ (p ∷ [])

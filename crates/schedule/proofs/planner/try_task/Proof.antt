@@ -14,7 +14,8 @@ use Rattle.job.specs.Number.{pick}
 use Rattle.job.specs.Write.{values}
 use Rattle.schedule.specs.declared.planner.Pair.{Pair}
 use Rattle.schedule.specs.Pass.{pairAt, firstBest, rowOf}
-use Rattle.schedule.specs.Laws.Tried.{for-values, values-front, values-none, firstBest-stays}
+use Rattle.schedule.specs.Laws.Lists.{for-values, values-front, values-none}
+use Rattle.schedule.specs.Laws.Tried.{firstBest-stays}
 use Rattle.schedule.proofs.planner.try_task.Statement.{statement}
 use Rattle.schedule.proofs.planner.try_task.Tie as tie
 
@@ -53,7 +54,7 @@ module _ (clock : ℕ) (arrivals free : List ℕ) (count task : ℕ) where
     unfolding rest pairAt
     early b l k =
         next b _ (at-clock k) ∙ rw (lt-ltb clock (b .start) l)
-        (firstBest-stays (pair clock task p) (rest (i + 1)) (for-values (λ x. clock ≤ x .start) (λ j. pairAt clock arrivals task (getD free j 0)) (i + 1) (count - (i + 1)) (λ n u v. omega arith)))
+        (firstBest-stays (pair clock task p) (rest (i + 1)) (for-values (λ j. pairAt clock arrivals task (getD free j 0)) (λ x. clock ≤ x .start) (i + 1) (count - (i + 1)) (λ n u v. omega arith)))
 
     -- a turn: with the best so far b, and the answer r
     module _ (b b′ r : Pair) (l : clock < b .start) (e : firstBest b (rest i) ≡ r) (k : clock < getD arrivals (16 * task + p) 0) where
