@@ -1,24 +1,24 @@
--- The calls on the bytes of document 01: its case A, and the small inputs of the refusal table for 9 to 13, held to the definitions by computing them.
+-- The calls on inputs of document 01: its case A, and the small inputs of the refusal table for 9 to 13, held to the definitions by computing them.
 use mathlib.Core.Option.{orElse}
 use mathlib.Core.Path.{_≡_, refl}
-use mathlib.Core.List.{List, [], _∷_, _++_, flatMap}
+use mathlib.Core.List.{List, [], _∷_, _++_, map, flatMap}
 use Prim.Native.Nat.{ℕ}
 use lib.ListN.{replicate}
 use Rattle.job.specs.Number.{number, bytes}
-use Rattle.job.specs.Job.{blank}
+use Rattle.job.specs.Job.{Job, blank}
 use Rattle.job.specs.Record.{kindOf, bodyLength, platformIn, durationIn, edgeIn, noRack, stands, full, platformInRange, durationInRange, countInRange, inRange, joins, endsRight, rises, aboveLast, inOrder, added}
 use Rattle.job.specs.Read.{after, judged, records, readJob}
 use Rattle.etf.specs.Lists.{upto, any, all, filter, greatest, keep, best}
 use Rattle.etf.specs.Instance.{duration, into, messageTime}
-use Rattle.etf.specs.Schedule.{placed, placementOf, messageTimeTo, arrival, scheduleOf}
+use Rattle.etf.specs.Schedule.{placed, placementOf, messageTimeTo, arrival, end, scheduleOf}
 use Rattle.etf.specs.Topology.{hops, cost}
 use Rattle.etf.specs.Rule.{atMost, move, settle, nextMoment, free, finished, ready, pair, pairs, choice, complete, round, run, planned}
 use Rattle.etf.specs.Checker.{firstAnswer, misplaced, overlap, early, check}
 use Rattle.etf.specs.OfJob.{instance}
-use Rattle.schedule.specs.declared.Planned.the-variants.{Refused}
+use Rattle.schedule.specs.declared.Planned.the-variants.{Plan, Refused}
 use Rattle.schedule.specs.declared.Checked.the-variants.{Yes, Refused as NotChecked}
-use Rattle.schedule.specs.Plan.{called, startOf, processorOf, planFor, planCall}
-use Rattle.schedule.specs.Check.{judged as judgedPlan, checkedAs, checkFor, checkCall}
+use Rattle.schedule.specs.Plan.{called, filled, scratchAt, planAccepted, startOf, processorOf, planFor, planCall}
+use Rattle.schedule.specs.Check.{checkOf, checkedAs, checkFor, checkCall}
 use Rattle.schedule.specs.PlanBytes.{returned, taskBytes, planBytes, processorIn, startIn, planBytesFor, planBytesCall, numberOf, checkBytesFor, checkBytesCall}
 
 -- a rack of two boards, flat, c = 2, and steps of so many ticks
@@ -32,6 +32,13 @@ step d = 2 ∷ d ∷ 0 ∷ 0 ∷ 0 ∷ []
 abbrev file-a : List ℕ
 file-a = rack-2 ++ (step 4 ++ (step 3 ++ (step 2 ++ (3 ∷ 0 ∷ 2 ∷ 1 ∷ 0 ∷ 3 ∷ 1 ∷ 2 ∷ 3 ∷ 0 ∷ 4 ∷ []))))
 
+abbrev job-a : Job
+job-a = record {
+  platform = record { processors = 2; topology = 0; unit = 2 };
+  tasks = 4 ∷ 3 ∷ 2 ∷ [];
+  edges = record { from = 0; to = 2; count = 1 } ∷ record { from = 1; to = 2; count = 3 } ∷ [];
+}
+
 -- two steps of five ticks; the same with a link of one message
 abbrev apart : List ℕ
 apart = rack-2 ++ (step 5 ++ (step 5 ++ (4 ∷ [])))
@@ -43,17 +50,31 @@ linked = rack-2 ++ (step 5 ++ (step 5 ++ (3 ∷ 0 ∷ 1 ∷ 1 ∷ 0 ∷ 4 ∷ []
 abbrev at : ℕ → ℕ → List ℕ
 at board start = board ∷ start ∷ 0 ∷ 0 ∷ 0 ∷ []
 
--- the planner from C: case A fills fifteen bytes and leaves the others; 9 with fewer than fifteen; the reader's number is passed on
-pub planned-from-c :
-    (planBytesCall file-a (replicate 17 7) ≡ returned 0 (at 0 0 ++ (at 1 0 ++ (at 1 6 ++ (7 ∷ 7 ∷ [])))))
+-- the arrivals of case A as the scratch has them: step 2 at boards 0 and 1, and 0 where there is no predecessor, no board or no step
+abbrev scratch-a : List ℕ
+scratch-a = map (scratchAt (instance job-a)) (0 ∷ 17 ∷ 32 ∷ 33 ∷ 34 ∷ 48 ∷ 4095 ∷ [])
+
+-- each call on its input
+pub cases-hold :
+    -- the planner: m and the end, the starts and the processors, places past m as they were; the scratch by place
+    (planCall file-a (7 ∷ 7 ∷ 7 ∷ 8 ∷ []) (7 ∷ 7 ∷ 7 ∷ []) (replicate 4096 7) .answer ≡ Plan 3 8)
+    × (planCall file-a (7 ∷ 7 ∷ 7 ∷ 8 ∷ []) (7 ∷ 7 ∷ 7 ∷ []) (replicate 4096 7) .starts ≡ 0 ∷ 0 ∷ 6 ∷ 8 ∷ [])
+    × (planCall file-a (7 ∷ 7 ∷ 7 ∷ 8 ∷ []) (7 ∷ 7 ∷ 7 ∷ []) (replicate 4096 7) .processors ≡ 0 ∷ 1 ∷ 1 ∷ [])
+    × (scratch-a ≡ 0 ∷ 0 ∷ 9 ∷ 6 ∷ 0 ∷ 0 ∷ 0 ∷ [])
+    -- 01: 9, "m = 2, one start place", and so for each slice
+    × (planCall apart (7 ∷ []) (7 ∷ 7 ∷ []) (8 ∷ []) ≡ called (Refused 9) (7 ∷ []) (7 ∷ 7 ∷ []) (8 ∷ []))
+    × (planCall apart (7 ∷ 7 ∷ []) (7 ∷ []) (8 ∷ []) ≡ called (Refused 9) (7 ∷ 7 ∷ []) (7 ∷ []) (8 ∷ []))
+    × (planCall apart (7 ∷ 7 ∷ []) (7 ∷ 7 ∷ []) (8 ∷ []) ≡ called (Refused 9) (7 ∷ 7 ∷ []) (7 ∷ 7 ∷ []) (8 ∷ []))
+    -- the checker: 9 for each slice; places past m are not read
+    × (checkCall apart (0 ∷ []) (0 ∷ 1 ∷ []) ≡ NotChecked 9)
+    × (checkCall apart (0 ∷ 0 ∷ []) (0 ∷ []) ≡ NotChecked 9)
+    × (checkCall apart (0 ∷ 5 ∷ 0 ∷ []) (0 ∷ 0 ∷ 99 ∷ []) ≡ Yes)
+    -- the planner from C: fifteen bytes are filled and the others left; 9 with fewer than fifteen; the reader's number is passed on
+    × (planBytesCall file-a (replicate 17 7) ≡ returned 0 (at 0 0 ++ (at 1 0 ++ (at 1 6 ++ (7 ∷ 7 ∷ [])))))
     × (planBytesCall file-a (replicate 14 7) ≡ returned 9 (replicate 14 7))
     × (planBytesCall (1 ∷ 2 ∷ 0 ∷ []) (replicate 17 7) ≡ returned 1 (replicate 17 7))
-unfolding planBytesCall planBytesFor planBytes taskBytes bytes startOf processorOf readJob blank records judged after kindOf bodyLength stands noRack full inRange platformInRange durationInRange countInRange endsRight joins inOrder aboveLast rises added platformIn durationIn edgeIn number flatMap upto any all filter greatest keep best duration into messageTime placed placementOf messageTimeTo arrival hops cost atMost move settle nextMoment free finished ready pair pairs choice complete round run planned instance
-planned-from-c = (refl, refl, refl)
-
--- the checker from C: case A's own plan; 9 to 13; a start when the message is there; finish equal to start
-pub checked-from-c :
-    (checkBytesCall file-a (at 0 0 ++ (at 1 0 ++ at 1 6)) ≡ 0)
+    -- the checker from C: case A's own plan; 9, 10, 11 and the last start that is taken; 12 and finish equal to start; 13 and a message in time; the reader's number
+    × (checkBytesCall file-a (at 0 0 ++ (at 1 0 ++ at 1 6)) ≡ 0)
     × (checkBytesCall apart (at 0 0 ++ (1 ∷ 0 ∷ 0 ∷ 0 ∷ [])) ≡ 9)
     × (checkBytesCall apart (at 0 0 ++ at 2 0) ≡ 10)
     × (checkBytesCall apart (at 0 0 ++ (1 ∷ 1 ∷ 70 ∷ 195 ∷ 35 ∷ [])) ≡ 11)
@@ -63,16 +84,5 @@ pub checked-from-c :
     × (checkBytesCall linked (at 0 0 ++ at 1 6) ≡ 13)
     × (checkBytesCall linked (at 0 0 ++ at 1 7) ≡ 0)
     × (checkBytesCall (9 ∷ []) [] ≡ 2)
-unfolding checkBytesCall checkBytesFor judgedPlan numberOf processorIn startIn number readJob blank records judged after kindOf bodyLength stands noRack full inRange platformInRange durationInRange countInRange endsRight joins inOrder aboveLast rises added platformIn durationIn edgeIn upto any duration messageTime hops cost scheduleOf firstAnswer misplaced overlap early check instance orElse
-checked-from-c = (refl, refl, refl, refl, refl, refl, refl, refl, refl, refl)
-
--- 01: 9, "m = 2, one start place", and so for each slice; places past m are not read
-pub slices-too-short :
-    (planCall apart (7 ∷ []) (7 ∷ 7 ∷ []) (8 ∷ []) ≡ called (Refused 9) (7 ∷ []) (7 ∷ 7 ∷ []) (8 ∷ []))
-    × (planCall apart (7 ∷ 7 ∷ []) (7 ∷ []) (8 ∷ []) ≡ called (Refused 9) (7 ∷ 7 ∷ []) (7 ∷ []) (8 ∷ []))
-    × (planCall apart (7 ∷ 7 ∷ []) (7 ∷ 7 ∷ []) (8 ∷ []) ≡ called (Refused 9) (7 ∷ 7 ∷ []) (7 ∷ 7 ∷ []) (8 ∷ []))
-    × (checkCall apart (0 ∷ []) (0 ∷ 1 ∷ []) ≡ NotChecked 9)
-    × (checkCall apart (0 ∷ 0 ∷ []) (0 ∷ []) ≡ NotChecked 9)
-    × (checkCall apart (0 ∷ 5 ∷ 0 ∷ []) (0 ∷ 0 ∷ 99 ∷ []) ≡ Yes)
-unfolding planCall planFor checkCall checkFor checkedAs judgedPlan number readJob blank records judged after kindOf bodyLength stands noRack full inRange platformInRange durationInRange countInRange endsRight joins inOrder aboveLast rises added platformIn durationIn edgeIn upto any duration messageTime hops cost scheduleOf firstAnswer misplaced overlap early check instance orElse
-slices-too-short = (refl, refl, refl, refl, refl, refl)
+unfolding planCall planFor planAccepted filled scratchAt checkCall checkFor checkedAs checkOf planBytesCall planBytesFor planBytes taskBytes bytes startOf processorOf checkBytesCall checkBytesFor numberOf processorIn startIn number readJob blank records judged after kindOf bodyLength stands noRack full inRange platformInRange durationInRange countInRange endsRight joins inOrder aboveLast rises added platformIn durationIn edgeIn flatMap upto any all filter greatest keep best duration into messageTime placed placementOf messageTimeTo arrival end scheduleOf hops cost atMost move settle nextMoment free finished ready pair pairs choice complete round run planned firstAnswer misplaced overlap early check instance orElse
+cases-hold = (refl, refl, refl, refl, refl, refl, refl, refl, refl, refl, refl, refl, refl, refl, refl, refl, refl, refl, refl, refl, refl, refl, refl)

@@ -14,21 +14,22 @@ use Rattle.etf.specs.OfJob.{instance}
 use Rattle.schedule.specs.declared.Checked.{Checked}
 use Rattle.schedule.specs.declared.Checked.the-variants.{Yes, Refused}
 
--- what the checker says of a processor and a start for each task: none is a yes (01: "places past m are not read")
-unfoldable pub judged : Instance → (ℕ → ℕ) → (ℕ → ℕ) → Option ℕ
-judged I processor start = check I (scheduleOf I processor start)
+-- what the checker says of a plan, a processor and a start for each task (01: "A plan gives each step a board .. and a start"): none is a yes
+unfoldable pub checkOf : Instance → (ℕ → ℕ) → (ℕ → ℕ) → Option ℕ
+checkOf I processor start = check I (scheduleOf I processor start)
 
+-- 01: "the checker a yes", or the refusal's number
 unfoldable pub checkedAs : Option ℕ → Checked
 checkedAs none = Yes
 checkedAs (some k) = Refused k
 
--- 01: "A plan slice of the checker shorter than m is 9"
+-- 01: "A plan slice of the checker shorter than m is 9; places past m are not read"; a refused job "is passed on with the reader's own number"
 unfoldable pub checkFor : Answer → List ℕ → List ℕ → Checked
 checkFor (accepted j) starts processors =
     pick (ltb (length starts) (tasks (instance j)) || ltb (length processors) (tasks (instance j))) (Refused 9)
-    (checkedAs (judged (instance j) (λ T. getD processors T 0) (λ T. getD starts T 0)))
+    (checkedAs (checkOf (instance j) (λ T. getD processors T 0) (λ T. getD starts T 0)))
 checkFor (refused k) starts processors = Refused k
 
--- the call for a file and a plan's two slices
+-- the checker's call for a file and a plan's two slices
 unfoldable pub checkCall : List ℕ → List ℕ → List ℕ → Checked
 checkCall file starts processors = checkFor (readJob file) starts processors

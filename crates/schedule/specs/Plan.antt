@@ -21,6 +21,7 @@ pub record PlanCall : Type 0 where
   pub processors : List ℕ
   pub scratch : List ℕ
 
+-- a call that returns r and leaves these in the slices
 abbrev pub called : Planned → List ℕ → List ℕ → List ℕ → PlanCall
 called r starts processors scratch = record { answer = r; starts = starts; processors = processors; scratch = scratch }
 
@@ -29,7 +30,7 @@ unfoldable pub filled : (ℕ → ℕ) → ℕ → List ℕ → List ℕ
 filled f k old = map f (upto k) ++ drop k old
 
 module _ (I : Instance) where
-  -- the start and the processor of task T in the planner's schedule
+  -- the start (01: "start ticks") of task T in the planner's schedule, and its processor (01: "boards")
   unfoldable pub startOf : ℕ → ℕ
   startOf T = placementOf (planned I) T .start
 
@@ -41,19 +42,19 @@ module _ (I : Instance) where
   scratchAt x = pick (ltb (x / 16) (tasks I) && ltb (x % 16) (I .processors)) (arrival I (planned I) (x / 16) (x % 16)) 0
 
   -- on acceptance (01: "the planner m and the end")
-  unfoldable pub planCalled : List ℕ → List ℕ → List ℕ → PlanCall
-  planCalled starts processors scratch =
+  unfoldable pub planAccepted : List ℕ → List ℕ → List ℕ → PlanCall
+  planAccepted starts processors scratch =
       called (Plan (tasks I) (end I (planned I))) (filled startOf (tasks I) starts) (filled processorOf (tasks I) processors) (filled scratchAt 4096 scratch)
 
 -- 01: 9, "a lent slice too short": fewer than m starts, m processors or 4,096 places of scratch
--- (01: "Every refusal returns its number alone and alters no lent slice")
+-- (01: "Every refusal returns its number alone and alters no lent slice"); a refused job "is passed on with the reader's own number"
 unfoldable pub planFor : Answer → List ℕ → List ℕ → List ℕ → PlanCall
 planFor (accepted j) starts processors scratch =
     pick (ltb (length starts) (tasks (instance j)) || (ltb (length processors) (tasks (instance j)) || ltb (length scratch) 4096))
     (called (Refused 9) starts processors scratch)
-    (planCalled (instance j) starts processors scratch)
+    (planAccepted (instance j) starts processors scratch)
 planFor (refused k) starts processors scratch = called (Refused k) starts processors scratch
 
--- the call for a file and the borrowed slices
+-- the planner's call for a file and the borrowed slices
 unfoldable pub planCall : List ℕ → List ℕ → List ℕ → List ℕ → PlanCall
 planCall file starts processors scratch = planFor (readJob file) starts processors scratch

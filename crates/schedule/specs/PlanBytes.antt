@@ -10,13 +10,14 @@ use Rattle.etf.specs.Lists.{upto}
 use Rattle.etf.specs.Instance.{Instance, tasks}
 use Rattle.etf.specs.OfJob.{instance}
 use Rattle.schedule.specs.Plan.{startOf, processorOf}
-use Rattle.schedule.specs.Check.{judged}
+use Rattle.schedule.specs.Check.{checkOf}
 
 -- what a call returns, 0 or the refusal's number, and the last content of the plan
 pub record BytesCall : Type 0 where
   pub number : ℕ
   pub plan : List ℕ
 
+-- a call that returns k and leaves these bytes in the plan
 abbrev pub returned : ℕ → List ℕ → BytesCall
 returned k plan = record { number = k; plan = plan }
 
@@ -24,11 +25,11 @@ returned k plan = record { number = k; plan = plan }
 unfoldable pub taskBytes : ℕ → ℕ → List ℕ
 taskBytes processor start = processor ∷ bytes 4 start
 
--- the bytes of a plan, task by task
+-- the bytes of a plan (01: "a plan of 5 bytes a step"), task by task
 unfoldable pub planBytes : ℕ → (ℕ → ℕ) → (ℕ → ℕ) → List ℕ
 planBytes m processor start = flatMap (λ T. taskBytes (processor T) (start T)) (upto m)
 
--- the processor and the start of task T in a plan's bytes
+-- the processor (01: board) and the start of task T in a plan's bytes
 unfoldable pub processorIn : List ℕ → ℕ → ℕ
 processorIn plan T = getD plan (5 * T) 0
 
@@ -42,20 +43,21 @@ planBytesFor (accepted j) plan =
     (returned 0 (planBytes (tasks (instance j)) (processorOf (instance j)) (startOf (instance j)) ++ drop (5 * tasks (instance j)) plan))
 planBytesFor (refused k) plan = returned k plan
 
--- the planner's call from C
+-- the planner's call from C, for job bytes and plan bytes
 unfoldable pub planBytesCall : List ℕ → List ℕ → BytesCall
 planBytesCall file plan = planBytesFor (readJob file) plan
 
--- 0 for a yes, else the refusal's number
+-- 01: "Each returns 0 or the refusal's number"
 unfoldable pub numberOf : Option ℕ → ℕ
 numberOf none = 0
 numberOf (some k) = k
 
+-- 01: "9 if that is shorter than 5m"; a refused job's own number; else what the checker says of the plan's first 5m bytes
 unfoldable pub checkBytesFor : Answer → List ℕ → ℕ
 checkBytesFor (accepted j) plan =
-    pick (ltb (length plan) (5 * tasks (instance j))) 9 (numberOf (judged (instance j) (processorIn plan) (startIn plan)))
+    pick (ltb (length plan) (5 * tasks (instance j))) 9 (numberOf (checkOf (instance j) (processorIn plan) (startIn plan)))
 checkBytesFor (refused k) plan = k
 
--- the checker's call from C
+-- the checker's call from C, for job bytes and plan bytes
 unfoldable pub checkBytesCall : List ℕ → List ℕ → ℕ
 checkBytesCall file plan = checkBytesFor (readJob file) plan

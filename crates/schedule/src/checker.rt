@@ -7,9 +7,9 @@ ghost use Prim.Native.Nat.{ℕ, _≤_, _<_};
 ghost use lib.ListN.{length, getD};
 ghost use Rattle.job.specs.Write.{heldJob};
 ghost use Rattle.etf.specs.OfJob.{instance};
-ghost use Rattle.schedule.specs.Check.{judged};
+ghost use Rattle.schedule.specs.Check.{checkOf};
 ghost use Rattle.schedule.specs.PlanBytes.{numberOf};
-ghost use Rattle.schedule.specs.Pass.{InArrays, Judgeable, First, someIn, placeTroubles, overlapAt, overlapsLater, earlyAt};
+ghost use Rattle.schedule.specs.Pass.{InArrays, Judgeable, First, someIn, placeTroubles, overlapsLater, earlyAt};
 
 // The first task whose processor is not below n, or `tasks`.
 fn first_absent(tasks: usize, n: usize, processors: &[u8]) -> usize
@@ -86,6 +86,7 @@ fn overlaps_later(
     false
 }
 
+// Whether any two tasks overlap on a processor.
 fn any_overlap(tasks: usize, durations: &[u32], starts: &[u32], processors: &[u8]) -> bool
     requires { ⌜ Judgeable tasks (now durations) (now starts) (now processors) ⌝ }
     ensures { λ r. ⌜ r ≡ someIn (overlapsLater (now (durations .entry)) (now (starts .entry)) (now (processors .entry)) tasks) 0 tasks ⌝ }
@@ -123,8 +124,8 @@ fn any_early(
         let t = number::index(to[k]);
         let p = number::index(processors[s]);
         let q = number::index(processors[t]);
-        let sent = starts[s] + durations[s];
-        let arrival = sent + number::wide16(counts[k]) * costs[p][q];
+        let finish = starts[s] + durations[s];
+        let arrival = finish + number::wide16(counts[k]) * costs[p][q];
         if starts[t] < arrival {
             return true;
         }
@@ -148,7 +149,7 @@ pub fn trouble<'a>(
 ) -> u8
     requires { ⌜ InArrays platform tasks edges (now durations) (now from) (now to) (now counts) costs ⌝ }
     requires { ⌜ (tasks ≤ length (now starts)) × (tasks ≤ length (now processors)) ⌝ }
-    ensures { λ r. ⌜ r ≡ numberOf (judged (instance (heldJob platform tasks edges (now (durations .entry)) (now (from .entry)) (now (to .entry)) (now (counts .entry)))) (λ T. getD (now (processors .entry)) T 0) (λ T. getD (now (starts .entry)) T 0)) ⌝ }
+    ensures { λ r. ⌜ r ≡ numberOf (checkOf (instance (heldJob platform tasks edges (now (durations .entry)) (now (from .entry)) (now (to .entry)) (now (counts .entry)))) (λ T. getD (now (processors .entry)) T 0) (λ T. getD (now (starts .entry)) T 0)) ⌝ }
 {
     let number = misplaced(
         tasks,
@@ -159,6 +160,7 @@ pub fn trouble<'a>(
     if number != 0 {
         return number;
     }
+    // Both rules between tasks are looked at; 12 is judged before 13.
     let overlap = any_overlap(tasks, durations, starts, processors);
     let early = any_early(
         tasks,

@@ -6,6 +6,7 @@ ghost use mathlib.Core.Path.{_≡_};
 ghost use Prim.Native.Nat.{_≤_, _<_};
 ghost use Rattle.etf.specs.Topology.{ringHops, hops as hopsOf, cost as costOf, square as squareOf};
 
+// 01: "the smaller of the difference d of p and q, and n - d".
 fn ring_hops(n: usize, p: usize, q: usize) -> u32
     requires { ⌜ (n ≤ 16) × (p < n) × (q < n) ⌝ }
     ensures { λ r. ⌜ r ≡ ringHops n p q ⌝ }
@@ -17,6 +18,7 @@ fn ring_hops(n: usize, p: usize, q: usize) -> u32
     (n - d) as u32
 }
 
+// The hops between two different processors, by topology: 0 complete, 1 hypercube, 2 ring.
 fn hops(platform: Platform, p: usize, q: usize) -> u32
     requires { ⌜ (platform .processors ≤ 16) × (platform .topology ≤ 2) × (p < platform .processors) × (q < platform .processors) ⌝ }
     ensures { λ r. ⌜ r ≡ hopsOf platform p q ⌝ }
@@ -31,6 +33,7 @@ fn hops(platform: Platform, p: usize, q: usize) -> u32
     ring_hops(number::index(platform.processors), p, q)
 }
 
+// What one message takes from processor p to processor q.
 fn cost(platform: Platform, p: usize, q: usize) -> u32
     requires { ⌜ (platform .processors ≤ 16) × (platform .topology ≤ 2) × (platform .unit ≤ 100) × (p < platform .processors) × (q < platform .processors) ⌝ }
     ensures { λ r. ⌜ r ≡ costOf platform p q ⌝ }

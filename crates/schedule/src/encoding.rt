@@ -8,6 +8,7 @@ ghost use lib.Seq.{sets};
 ghost use Rattle.job.specs.Number.{number as numberIn};
 ghost use Rattle.schedule.specs.PlanBytes.{taskBytes, planBytes, processorIn, startIn};
 
+// Writes the five bytes of one task.
 fn put_task(plan: &mut [u8], at: usize, processor: u8, start: u32)
     requires { ⌜ at + 5 ≤ length (now plan) ⌝ }
     ensures { λ _. ⌜ now (plan .exit) ≡ sets (now (plan .entry)) at (taskBytes processor start) ⌝ }

@@ -263,6 +263,7 @@ const HYPERCUBE_HOPS: [u8; 256] = [
     0,
 ];
 
+// The number of binary places in which p and q differ.
 pub fn hops(p: usize, q: usize) -> u8
     requires { ⌜ (p < 16) × (q < 16) ⌝ }
     ensures { λ r. ⌜ r ≡ hypercubeHops p q ⌝ }

@@ -38,6 +38,7 @@ fn refusal(verdict: Verdict) -> u8
     }
 }
 
+// Sets the first 4,096 places to 0.
 fn clear(scratch: &mut [u32])
     requires { ⌜ 4096 ≤ length (now scratch) ⌝ }
     ensures { λ _. ⌜ now (scratch .exit) ≡ filled (λ x. 0) 4096 (now (scratch .entry)) ⌝ }

@@ -23,21 +23,21 @@ pub struct Moment {
     pub free: usize,
 }
 
-// The next moment, and the pair that the rule takes.
+// The next moment, and the first pair of smallest start; it is placed if it starts by the next moment.
 pub struct Choice {
     pub next: u32,
     pub pair: Pair,
 }
 
 // Looks over the processors at the clock: the free ones go to `free`.
-fn survey(busy: &[u32], processors: usize, clock: u32, free: &mut [usize]) -> Moment
-    requires { ⌜ (processors ≤ 16) × (length (now busy) ≡ 16) × (length (now free) ≡ 16) ⌝ }
-    ensures { λ r. ⌜ Surveyed (now (busy .entry)) processors clock (now (free .exit)) r ⌝ }
+fn survey(busy: &[u32], n: usize, clock: u32, free: &mut [usize]) -> Moment
+    requires { ⌜ (n ≤ 16) × (length (now busy) ≡ 16) × (length (now free) ≡ 16) ⌝ }
+    ensures { λ r. ⌜ Surveyed (now (busy .entry)) n clock (now (free .exit)) r ⌝ }
 {
     let mut next: u32 = 4294967295;
     let mut count: usize = 0;
     let mut p: usize = 0;
-    while p < processors {
+    while p < n {
         let finish = busy[p];
         if finish <= clock {
             free[count] = p;
@@ -132,18 +132,18 @@ fn look(
     clock: u32,
     low: usize,
     tasks: usize,
-    processors: usize,
+    n: usize,
     busy: &[u32],
     waiting: &[u16],
     latest: &[u32],
     arrivals: &[u32],
 ) -> Choice
-    requires { ⌜ (processors ≤ 16) × (clock < 4294967295) × (low ≤ tasks) × (tasks ≤ 256) ⌝ }
+    requires { ⌜ (n ≤ 16) × (clock < 4294967295) × (low ≤ tasks) × (tasks ≤ 256) ⌝ }
     requires { ⌜ (length (now busy) ≡ 16) × (length (now waiting) ≡ 256) × (length (now latest) ≡ 256) × (4096 ≤ length (now arrivals)) ⌝ }
-    ensures { λ r. ⌜ Looked clock low tasks processors (now (busy .entry)) (now (waiting .entry)) (now (latest .entry)) (now (arrivals .entry)) r ⌝ }
+    ensures { λ r. ⌜ Looked clock low tasks n (now (busy .entry)) (now (waiting .entry)) (now (latest .entry)) (now (arrivals .entry)) r ⌝ }
 {
     let mut free = [0usize; 16];
-    let moment = survey(busy, processors, clock, &mut free);
+    let moment = survey(busy, n, clock, &mut free);
     let pair = choose(
         clock,
         low,
@@ -161,13 +161,13 @@ fn look(
 }
 
 // Raises the arrivals of a task by what one predecessor sends to it.
-fn raise(arrivals: &mut [u32], task: usize, processors: usize, finish: u32, count: u32, row: &[u32])
-    requires { ⌜ (task < 256) × (processors ≤ 16) × (4096 ≤ length (now arrivals)) × (length (now row) ≡ 16) ⌝ }
+fn raise(arrivals: &mut [u32], task: usize, n: usize, finish: u32, count: u32, row: &[u32])
+    requires { ⌜ (task < 256) × (n ≤ 16) × (4096 ≤ length (now arrivals)) × (length (now row) ≡ 16) ⌝ }
     requires { ⌜ (finish ≤ 460000000) × (count ≤ 1000) × ((P : ℕ) → getD (now row) P 0 ≤ 800) ⌝ }
-    ensures { λ _. ⌜ Raised processors task finish count (now (row .entry)) (now (arrivals .entry)) (now (arrivals .exit)) ⌝ }
+    ensures { λ _. ⌜ Raised n task finish count (now (row .entry)) (now (arrivals .entry)) (now (arrivals .exit)) ⌝ }
 {
     let mut p: usize = 0;
-    while p < processors {
+    while p < n {
         let arrival = finish + count * row[p];
         if arrivals[16 * task + p] < arrival {
             arrivals[16 * task + p] = arrival;
@@ -181,7 +181,7 @@ fn send(
     first: usize,
     last: usize,
     finish: u32,
-    processors: usize,
+    n: usize,
     row: &[u32],
     to: &[u8],
     counts: &[u16],
@@ -189,11 +189,11 @@ fn send(
     waiting: &mut [u16],
     latest: &mut [u32],
 )
-    requires { ⌜ (first ≤ last) × (last ≤ length (now to)) × (last ≤ length (now counts)) × (processors ≤ 16) × (finish ≤ 460000000) ⌝ }
+    requires { ⌜ (first ≤ last) × (last ≤ length (now to)) × (last ≤ length (now counts)) × (n ≤ 16) × (finish ≤ 460000000) ⌝ }
     requires { ⌜ (4096 ≤ length (now arrivals)) × (length (now waiting) ≡ 256) × (length (now latest) ≡ 256) × (length (now row) ≡ 16) ⌝ }
     requires { ⌜ ((P : ℕ) → getD (now row) P 0 ≤ 800) × ((k : ℕ) → k < last → getD (now counts) k 0 ≤ 1000) ⌝ }
     requires { ⌜ ((T : ℕ) → sum last (λ k. one-if (sentTo (now to) first T k)) ≤ getD (now waiting) T 0) ⌝ }
-    ensures { λ _. ⌜ Sent first last finish processors (now (row .entry)) (now (to .entry)) (now (counts .entry)) (now (arrivals .entry)) (now (arrivals .exit)) (now (waiting .entry)) (now (waiting .exit)) (now (latest .entry)) (now (latest .exit)) ⌝ }
+    ensures { λ _. ⌜ Sent first last finish n (now (row .entry)) (now (to .entry)) (now (counts .entry)) (now (arrivals .entry)) (now (arrivals .exit)) (now (waiting .entry)) (now (waiting .exit)) (now (latest .entry)) (now (latest .exit)) ⌝ }
 {
     let mut k = first;
     while k < last {
@@ -319,6 +319,7 @@ pub fn run<'a>(
     let mut clock: u32 = 0;
     let mut end: u32 = 0;
     let mut low: usize = 0;
+    // The proof counts the rounds: 2m - 1 are enough, so the loop ends.
     let mut rounds: usize = 0;
     while low < tasks {
         let choice = look(clock, low, tasks, n, &busy, &waiting, &latest, arrivals);

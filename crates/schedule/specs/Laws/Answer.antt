@@ -21,7 +21,7 @@ use Rattle.etf.specs.Schedule.{Placement, scheduleOf}
 use Rattle.etf.specs.Checker.{firstAnswer, misplaced, overlap, early, check}
 use Rattle.etf.specs.Laws.Tests.{both, first, second, same-test, eq→eqb, le-or-lt}
 use Rattle.etf.specs.Laws.Checker.{overlap-of, overlap-in, early-of, early-in, overlapping, hasty}
-use Rattle.schedule.specs.Check.{judged}
+use Rattle.schedule.specs.Check.{checkOf}
 use Rattle.schedule.specs.PlanBytes.{numberOf}
 use Rattle.schedule.specs.Pass.{someIn, placeTrouble, placeTroubles, overlapAt, overlapsLater, earlyAt}
 use Rattle.schedule.specs.Laws.Lists.{map-upto}
@@ -116,10 +116,10 @@ abbrev pub planOf : Instance → List ℕ → List ℕ → List Placement
 planOf I starts processors = values (placementAt starts processors) 0 (tasks I)
 
 -- the checker's number for it: the tasks by number, then overlaps, then starts too early
-pub number-is : (I : Instance) (starts processors : List ℕ) → numberOf (judged I (λ T. getD processors T 0) (λ T. getD starts T 0))
+pub number-is : (I : Instance) (starts processors : List ℕ) → numberOf (checkOf I (λ T. getD processors T 0) (λ T. getD starts T 0))
     ≡ (let r : ℕ = placeTroubles (I .processors) starts processors 0 (tasks I) in
     pick (eqb r 0) (pick (overlapping I (planOf I starts processors)) 12 (pick (hasty I (planOf I starts processors)) 13 0)) r)
-unfolding judged scheduleOf check
+unfolding checkOf scheduleOf check
 number-is I starts processors =
     let ps = planOf I starts processors in
     ap (λ qs. numberOf (check I qs)) (map-upto (placementAt starts processors) (tasks I))

@@ -14,7 +14,7 @@ use Rattle.etf.specs.Instance.{Instance, tasks}
 use Rattle.etf.specs.Schedule.{Placement}
 use Rattle.etf.specs.OfJob.{instance}
 use Rattle.etf.specs.Laws.Checker.{overlapping, hasty}
-use Rattle.schedule.specs.Check.{judged}
+use Rattle.schedule.specs.Check.{checkOf}
 use Rattle.schedule.specs.PlanBytes.{numberOf}
 use Rattle.schedule.specs.Pass.{InArrays, Judgeable, someIn, placeTroubles, overlapsLater, earlyAt}
 use Rattle.schedule.specs.Laws.Given.{held-tasks, held-processors, given, cost-at}
@@ -40,7 +40,7 @@ module _ {platform : Platform} {m l : ℕ} {durations from to counts : List ℕ}
   module _ (starts processors : List ℕ) {n r : ℕ} (n-is : n ≡ platform .processors) (r-is : r ≡ placeTroubles n starts processors 0 m) where
     -- the checker's number
     abbrev answer : ℕ
-    answer = numberOf (judged I (λ T. getD processors T 0) (λ T. getD starts T 0))
+    answer = numberOf (checkOf I (λ T. getD processors T 0) (λ T. getD starts T 0))
 
     abbrev plan : List Placement
     plan = planOf I starts processors

@@ -16,7 +16,7 @@ use Rattle.etf.specs.Schedule.{scheduleOf}
 use Rattle.etf.specs.Checker.{check}
 use Rattle.etf.specs.Laws.Lists.{upto-of, length-upto, map-same, flatMap-same}
 use Rattle.etf.specs.Laws.Tests.{le-or-lt}
-use Rattle.schedule.specs.Check.{judged}
+use Rattle.schedule.specs.Check.{checkOf}
 use Rattle.schedule.specs.PlanBytes.{taskBytes, planBytes, processorIn, startIn}
 use Rattle.schedule.specs.Laws.Lists.{upto-values}
 
@@ -79,6 +79,6 @@ unfolding planBytes
 plan-bytes-same m p q s t e h = flatMap-same _ _ (upto m) (λ T k. rw (e T (upto-of m T k), h T (upto-of m T k)))
 
 -- and the checker says the same of them
-pub judged-same : (I : Instance) (p q s t : ℕ → ℕ) → ((T : ℕ) → T < tasks I → p T ≡ q T) → ((T : ℕ) → T < tasks I → s T ≡ t T) → judged I p s ≡ judged I q t
-unfolding judged scheduleOf
-judged-same I p q s t e h = ap (check I) (map-same _ _ (upto (tasks I)) (λ T k. rw (e T (upto-of (tasks I) T k), h T (upto-of (tasks I) T k))))
+pub check-of-same : (I : Instance) (p q s t : ℕ → ℕ) → ((T : ℕ) → T < tasks I → p T ≡ q T) → ((T : ℕ) → T < tasks I → s T ≡ t T) → checkOf I p s ≡ checkOf I q t
+unfolding checkOf scheduleOf
+check-of-same I p q s t e h = ap (check I) (map-same _ _ (upto (tasks I)) (λ T k. rw (e T (upto-of (tasks I) T k), h T (upto-of (tasks I) T k))))

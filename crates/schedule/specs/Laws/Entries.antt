@@ -18,18 +18,18 @@ use Rattle.etf.specs.Verdict.{number-only}
 use Rattle.etf.specs.OfJob.{instance}
 use Rattle.schedule.specs.declared.Planned.the-variants.{Plan, Refused as NotPlanned}
 use Rattle.schedule.specs.declared.Checked.the-variants.{Yes, Refused as NotChecked}
-use Rattle.schedule.specs.Plan.{called, filled, startOf, processorOf, scratchAt, planCalled, planFor, planCall}
-use Rattle.schedule.specs.Check.{judged, checkedAs, checkFor, checkCall}
+use Rattle.schedule.specs.Plan.{called, filled, startOf, processorOf, scratchAt, planAccepted, planFor, planCall}
+use Rattle.schedule.specs.Check.{checkOf, checkedAs, checkFor, checkCall}
 use Rattle.schedule.specs.PlanBytes.{returned, planBytes, processorIn, startIn, planBytesFor, planBytesCall, numberOf, checkBytesFor, checkBytesCall}
 use Rattle.schedule.specs.Pass.{Room, Ran, verdictNumber}
 use Rattle.schedule.specs.Laws.Filled.{filled-length, filled-at, filled-filled}
-use Rattle.schedule.specs.Laws.Encoded.{plan-bytes-same, judged-same}
+use Rattle.schedule.specs.Laws.Encoded.{plan-bytes-same, check-of-same}
 use Rattle.schedule.specs.Laws.Reading.{refused-is, Read}
 
 -- ---- the checker's answer as a number: no refusal has the number 0
 
-never-zero : (J : Instance) (p s : ℕ → ℕ) → judged J p s ≡ some 0 → ⊥
-unfolding judged
+never-zero : (J : Instance) (p s : ℕ → ℕ) → checkOf J p s ≡ some 0 → ⊥
+unfolding checkOf
 never-zero J p s e = go 0 refl (number-only J (scheduleOf J p s) 0 e)
   where
     go : (k : ℕ) → k ≡ 0 → Because J (scheduleOf J p s) k → ⊥
@@ -122,7 +122,7 @@ module _ {file : List ℕ} {x : Reading} {m l : ℕ} (K : Read file x m l) where
   pub plan-done : {starts processors : List ℕ} (scratch : List ℕ) {r : ℕ} {starts′ processors′ cleared scratch′ : List ℕ} → m ≤ length starts → m ≤ length processors → 4096 ≤ length scratch
       → cleared ≡ filled (λ x. 0) 4096 scratch → Ran H m r starts starts′ processors processors′ cleared scratch′
       → called (Plan m r) starts′ processors′ scratch′ ≡ planCall file starts processors scratch
-  unfolding planCall planFor planCalled
+  unfolding planCall planFor planAccepted
   plan-done scratch a b c f R =
       rw (K .says)
       (simp (tasks-is, le-ltb _ _ a, le-ltb _ _ b, le-ltb _ _ c)
@@ -137,17 +137,17 @@ module _ {file : List ℕ} {x : Reading} {m l : ℕ} (K : Read file x m l) where
     unfolding checkCall checkFor
     check-no-processors a h = rw (K .says) (simp (tasks-is, le-ltb _ _ a, lt-ltb _ _ h))
 
-    module _ {t : ℕ} (a : m ≤ length starts) (b : m ≤ length processors) (g : t ≡ numberOf (judged H (λ T. getD processors T 0) (λ T. getD starts T 0))) where
-      says : numberOf (judged I (λ T. getD processors T 0) (λ T. getD starts T 0)) ≡ t
-      says = sym (g ∙ ap (λ (J : Instance). numberOf (judged J (λ T. getD processors T 0) (λ T. getD starts T 0))) same)
+    module _ {t : ℕ} (a : m ≤ length starts) (b : m ≤ length processors) (g : t ≡ numberOf (checkOf H (λ T. getD processors T 0) (λ T. getD starts T 0))) where
+      says : numberOf (checkOf I (λ T. getD processors T 0) (λ T. getD starts T 0)) ≡ t
+      says = sym (g ∙ ap (λ (J : Instance). numberOf (checkOf J (λ T. getD processors T 0) (λ T. getD starts T 0))) same)
 
       pub check-trouble : (t ≡ 0 → ⊥) → NotChecked t ≡ checkCall file starts processors
       unfolding checkCall checkFor
-      check-trouble h = rw (K .says) (simp (tasks-is, le-ltb _ _ a, le-ltb _ _ b) (some-number (judged I (λ T. getD processors T 0) (λ T. getD starts T 0)) t says h))
+      check-trouble h = rw (K .says) (simp (tasks-is, le-ltb _ _ a, le-ltb _ _ b) (some-number (checkOf I (λ T. getD processors T 0) (λ T. getD starts T 0)) t says h))
 
       pub check-yes : t ≡ 0 → Yes ≡ checkCall file starts processors
       unfolding checkCall checkFor
-      check-yes h = rw (K .says) (simp (tasks-is, le-ltb _ _ a, le-ltb _ _ b) (no-number (judged I (λ T. getD processors T 0) (λ T. getD starts T 0)) (never-zero I (λ T. getD processors T 0) (λ T. getD starts T 0)) (says ∙ h)))
+      check-yes h = rw (K .says) (simp (tasks-is, le-ltb _ _ a, le-ltb _ _ b) (no-number (checkOf I (λ T. getD processors T 0) (λ T. getD starts T 0)) (never-zero I (λ T. getD processors T 0) (λ T. getD starts T 0)) (says ∙ h)))
 
   module _ (plan : List ℕ) where
     pub plan-bytes-short : length plan < 5 * m → returned 9 plan ≡ planBytesCall file plan
@@ -171,10 +171,10 @@ module _ {file : List ℕ} {x : Reading} {m l : ℕ} (K : Read file x m l) where
 
     pub check-bytes-done : {t : ℕ} (starts processors : List ℕ) → 5 * m ≤ length plan
         → ((T : ℕ) → T < m → (getD starts T 0 ≡ startIn plan T) × (getD processors T 0 ≡ processorIn plan T))
-        → t ≡ numberOf (judged H (λ T. getD processors T 0) (λ T. getD starts T 0)) → t ≡ checkBytesCall file plan
+        → t ≡ numberOf (checkOf H (λ T. getD processors T 0) (λ T. getD starts T 0)) → t ≡ checkBytesCall file plan
     unfolding checkBytesCall checkBytesFor
     check-bytes-done starts processors a got g =
-        let e = judged-same I (λ T. getD processors T 0) (processorIn plan) (λ T. getD starts T 0) (startIn plan)
+        let e = check-of-same I (λ T. getD processors T 0) (processorIn plan) (λ T. getD starts T 0) (startIn plan)
         (λ T h. got T (omega (arith, tasks-is)) .1) (λ T h. got T (omega (arith, tasks-is)) .0) in
         rw (K .says) (simp (tasks-is, le-ltb _ _ a)
-        (g ∙ (ap (λ (J : Instance). numberOf (judged J (λ T. getD processors T 0) (λ T. getD starts T 0))) same ∙ ap numberOf e)))
+        (g ∙ (ap (λ (J : Instance). numberOf (checkOf J (λ T. getD processors T 0) (λ T. getD starts T 0))) same ∙ ap numberOf e)))

@@ -21,11 +21,11 @@ use Rattle.etf.specs.Jobs.{well-formed, no-finish-passes, planned-accepted}
 use Rattle.etf.specs.Laws.Planned.{home}
 use Rattle.schedule.specs.declared.Planned.the-variants.{Plan, Refused}
 use Rattle.schedule.specs.declared.Checked.the-variants.{Yes}
-use Rattle.schedule.specs.Plan.{called, filled, startOf, processorOf, planCalled, planFor}
-use Rattle.schedule.specs.Check.{judged, checkedAs, checkFor}
+use Rattle.schedule.specs.Plan.{called, filled, startOf, processorOf, planAccepted, planFor}
+use Rattle.schedule.specs.Check.{checkOf, checkedAs, checkFor}
 use Rattle.schedule.specs.PlanBytes.{returned, planBytes, processorIn, startIn, planBytesFor, numberOf, checkBytesFor}
 use Rattle.schedule.specs.Laws.Filled.{filled-at, filled-length}
-use Rattle.schedule.specs.Laws.Encoded.{judged-same, plan-size}
+use Rattle.schedule.specs.Laws.Encoded.{check-of-same, plan-size}
 use Rattle.schedule.specs.Laws.Decoded.{processor-back, start-back}
 
 module _ (j : Job) (a : Accepted j) where
@@ -33,8 +33,8 @@ module _ (j : Job) (a : Accepted j) where
   I = instance j
 
   -- the checker's answer to the planner's processors and starts
-  own : judged I (processorOf I) (startOf I) ≡ none
-  unfolding judged byTask startOf processorOf
+  own : checkOf I (processorOf I) (startOf I) ≡ none
+  unfolding checkOf byTask startOf processorOf
   own = planned-accepted j a
 
   start-fits : (T : ℕ) → T < tasks I → startOf I T < 2 ^ 32
@@ -46,14 +46,14 @@ module _ (j : Job) (a : Accepted j) where
 
   pub slices-yes : (starts processors scratch : List ℕ) (m e : ℕ) → planFor (accepted j) starts processors scratch .answer ≡ Plan m e
       → checkFor (accepted j) (planFor (accepted j) starts processors scratch .starts) (planFor (accepted j) starts processors scratch .processors) ≡ Yes
-  unfolding planFor planCalled checkFor checkedAs
+  unfolding planFor planAccepted checkFor checkedAs
   slices-yes starts processors scratch m e h =
       go (ltb (length starts) (tasks I)) refl (ltb (length processors) (tasks I)) refl (ltb (length scratch) 4096) h
     where
       go : (b : Bool) → ltb (length starts) (tasks I) ≡ b → (c : Bool) → ltb (length processors) (tasks I) ≡ c → (d : Bool)
-          → (pick (b || (c || d)) (called (Refused 9) starts processors scratch) (planCalled I starts processors scratch)) .answer ≡ Plan m e
-          → checkFor (accepted j) ((pick (b || (c || d)) (called (Refused 9) starts processors scratch) (planCalled I starts processors scratch)) .starts)
-          ((pick (b || (c || d)) (called (Refused 9) starts processors scratch) (planCalled I starts processors scratch)) .processors) ≡ Yes
+          → (pick (b || (c || d)) (called (Refused 9) starts processors scratch) (planAccepted I starts processors scratch)) .answer ≡ Plan m e
+          → checkFor (accepted j) ((pick (b || (c || d)) (called (Refused 9) starts processors scratch) (planAccepted I starts processors scratch)) .starts)
+          ((pick (b || (c || d)) (called (Refused 9) starts processors scratch) (planAccepted I starts processors scratch)) .processors) ≡ Yes
       go true p c q d w = let z : false ≡ true = cc in never z
       go false p true q d w = let z : false ≡ true = cc in never z
       go false p false q true w = let z : false ≡ true = cc in never z
@@ -63,7 +63,7 @@ module _ (j : Job) (a : Accepted j) where
             le-ltb (length (filled (processorOf I) (tasks I) processors)) (tasks I) (omega (arith, filled-length (processorOf I) (tasks I) processors (room processors q), room processors q)),
           )
           (ap checkedAs
-          (judged-same I (λ T. getD (filled (processorOf I) (tasks I) processors) T 0) (processorOf I) (λ T. getD (filled (startOf I) (tasks I) starts) T 0) (startOf I)
+          (check-of-same I (λ T. getD (filled (processorOf I) (tasks I) processors) T 0) (processorOf I) (λ T. getD (filled (startOf I) (tasks I) starts) T 0) (startOf I)
           (filled-at (processorOf I) (tasks I) processors) (filled-at (startOf I) (tasks I) starts) ∙ own))
 
   pub bytes-yes : (plan : List ℕ) → planBytesFor (accepted j) plan .number ≡ 0 → checkBytesFor (accepted j) (planBytesFor (accepted j) plan .plan) ≡ 0
@@ -81,6 +81,6 @@ module _ (j : Job) (a : Accepted j) where
           length-append (planBytes (tasks I) (processorOf I) (startOf I)) (drop (5 * tasks I) plan) ∙ ap (λ (n : ℕ). n + length (drop (5 * tasks I) plan)) (plan-size (processorOf I) (startOf I) (tasks I)) in
           simp (le-ltb (length full) (5 * tasks I) (omega (arith, size)))
           (ap numberOf
-          (judged-same I (processorIn full) (processorOf I) (startIn full) (startOf I)
+          (check-of-same I (processorIn full) (processorOf I) (startIn full) (startOf I)
           (processor-back (tasks I) (processorOf I) (startOf I) (drop (5 * tasks I) plan))
           (λ T h. start-back (tasks I) (processorOf I) (startOf I) (drop (5 * tasks I) plan) T h (start-fits T h)) ∙ own))

@@ -91,28 +91,28 @@ shared-slice-read-index-4 c =
 index-requires-4 : tie.Need-index-requires-4 Inv-loop μ-loop
 index-requires-4 c κs = search needs
 
-mul-sent : tie.Need-mul-sent Inv-loop μ-loop
-mul-sent c = search needs
+mul-finish : tie.Need-mul-finish Inv-loop μ-loop
+mul-finish c = search needs
 
-shared-slice-read-sent : tie.Need-shared-slice-read-sent Inv-loop μ-loop
-shared-slice-read-sent c =
+shared-slice-read-finish : tie.Need-shared-slice-read-finish Inv-loop μ-loop
+shared-slice-read-finish c =
     let at-index = c .before .before .before .before .before .before .before in
     let at-test = at-index .before .before in
     let at-start = at-test .before .before .before .before .before .before .before .before in
     within _ _ _ _ (at-index .index .ensures .0) (at-start .pre .1 .0 _ (at-test .loop-test .taken) .0) (at-start .pre .0 .0 .has-starts)
 
-mul-sent-2 : tie.Need-mul-sent-2 Inv-loop μ-loop
-mul-sent-2 c = search needs
+mul-finish-2 : tie.Need-mul-finish-2 Inv-loop μ-loop
+mul-finish-2 c = search needs
 
-shared-slice-read-sent-2 : tie.Need-shared-slice-read-sent-2 Inv-loop μ-loop
-shared-slice-read-sent-2 c =
+shared-slice-read-finish-2 : tie.Need-shared-slice-read-finish-2 Inv-loop μ-loop
+shared-slice-read-finish-2 c =
     let at-index = c .before .before .before .before .before .before .before .before in
     let at-test = at-index .before .before in
     let at-start = at-test .before .before .before .before .before .before .before .before in
     within _ _ _ _ (at-index .index .ensures .0) (at-start .pre .1 .0 _ (at-test .loop-test .taken) .0) (at-start .pre .0 .0 .has-durations)
 
-add-sent : tie.Need-add-sent Inv-loop μ-loop
-add-sent c =
+add-finish : tie.Need-add-finish Inv-loop μ-loop
+add-finish c =
     let at-index = c .before .before .before .before .before .before .before .before in
     let at-test = at-index .before .before in
     let at-start = at-test .before .before .before .before .before .before .before .before in
@@ -232,11 +232,11 @@ any-early-spec =
     index-requires-3
     shared-slice-read-index-4
     index-requires-4
-    mul-sent
-    shared-slice-read-sent
-    mul-sent-2
-    shared-slice-read-sent-2
-    add-sent
+    mul-finish
+    shared-slice-read-finish
+    mul-finish-2
+    shared-slice-read-finish-2
+    add-finish
     mul-wide16
     shared-slice-read-wide16
     wide16-requires

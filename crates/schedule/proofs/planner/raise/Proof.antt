@@ -119,7 +119,7 @@ same-length c = search needs
 
 returns : tie.Need-returns Inv-loop μ-loop
 returns c =
-    let e : c .before .loop .p ≡ c .before .before .args .processors = omega arith in
+    let e : c .before .loop .p ≡ c .before .before .args .n = omega arith in
     rw e at (c .before .loop .inv .2)
 
 pub raise-spec : {M : Type 1} → statement M
