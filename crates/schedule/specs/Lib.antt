@@ -2,6 +2,7 @@ pub mod Plan
 pub mod Check
 pub mod PlanBytes
 pub mod Cases
+pub mod Numbers
 pub mod OwnPlan
 pub mod Pass
 pub mod Laws
