@@ -18,7 +18,7 @@ Inv-loop scratch₀ x₀ scratch x =
     (x ≤ 4096) × (4096 ≤ length scratch₀) × (length scratch ≡ length scratch₀) × (scratch ≡ filled (λ i. 0) x scratch₀)
 
 abbrev μ-loop : tie.MeasureT-loop
-μ-loop scratch₀ x₀ scratch x = 4096 - x
+μ-loop scratch₀ x₀ scratch x = length scratch₀ - x
 
 loop-holds : tie.Need-loop-holds Inv-loop μ-loop
 loop-holds c = (search needs, search needs, search needs, sym (filled-none (λ i. 0) _))
