@@ -198,14 +198,7 @@ fn send(
     let mut k = first;
     while k < last {
         let t = number::index(to[k]);
-        raise(
-            arrivals,
-            t,
-            processors,
-            finish,
-            number::wide16(counts[k]),
-            row,
-        );
+        raise(arrivals, t, n, finish, number::wide16(counts[k]), row);
         if latest[t] < finish {
             latest[t] = finish;
         }

@@ -17,18 +17,12 @@ use Rattle.etf.specs.Laws.Checker.{overlapping, hasty}
 use Rattle.schedule.specs.Check.{checkOf}
 use Rattle.schedule.specs.PlanBytes.{numberOf}
 use Rattle.schedule.specs.Pass.{InArrays, Judgeable, someIn, placeTroubles, overlapsLater, earlyAt}
-use Rattle.schedule.specs.Laws.Given.{held-tasks, held-processors, given, cost-at}
+use Rattle.schedule.specs.Laws.Given.{held-tasks, held-processors, given, held-few, cost-at}
 use Rattle.schedule.specs.Laws.Answer.{planOf, InPlace, each-in-place, number-is, overlaps-are, hasty-is}
 
 module _ {platform : Platform} {m l : ℕ} {durations from to counts : List ℕ} {costs : List (List ℕ)} (A : InArrays platform m l durations from to counts costs) where
   abbrev I : Instance
   I = instance (heldJob platform m l durations from to counts)
-
-  -- the edges have their places in the arrays
-  pub edges-there : (l ≤ length from) × (l ≤ length to) × (l ≤ length counts)
-  edges-there =
-      let few = given A .few-edges in
-      (omega (arith, few, A .from-size), omega (arith, few, A .to-size), omega (arith, few, A .counts-size))
 
   -- the ends of edge k are tasks, and its messages are few
   pub edge-fits : (k : ℕ) → k < l → (getD from k 0 < m) × (getD to k 0 < m) × (getD counts k 0 ≤ 1000)
@@ -65,7 +59,7 @@ module _ {platform : Platform} {m l : ℕ} {durations from to counts : List ℕ}
 
       pub judgeable : (m ≤ length starts) × (m ≤ length processors) → Judgeable m durations starts processors
       judgeable h = record {
-        has-durations = omega (arith, given A .few-tasks, held-tasks A, A .durations-size);
+        has-durations = omega (arith, held-few A, A .durations-size);
         has-starts = h .0;
         has-processors = h .1;
         short = λ T k. let b : T < tasks I = omega (arith, held-tasks A) in omega (arith, given A .short T b, given A .timed T b);

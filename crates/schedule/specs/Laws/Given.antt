@@ -88,6 +88,15 @@ module _ {platform : Platform} {m l : ℕ} {durations from to counts : List ℕ}
     few-messages = each (λ e. e .count ≤ 1000) (A .accepted .few-messages);
   }
 
+  -- the tasks and the edges have their places in the arrays
+  pub held-few : m ≤ 256
+  held-few = omega (arith, held-tasks, given .few-tasks)
+
+  pub edges-there : (l ≤ length from) × (l ≤ length to) × (l ≤ length counts)
+  edges-there =
+      let few = given .few-edges in
+      (omega (arith, few, A .from-size), omega (arith, few, A .to-size), omega (arith, few, A .counts-size))
+
   -- ---- the costs
 
   few-here : platform .processors ≤ 16

@@ -208,6 +208,15 @@ module _ {I : Instance} {m n l : ℕ} {durations from to counts : List ℕ} {cos
           pub task-below : pair .task < m
           task-below = omega (arith, put-is .task-ready .below, X .tasks-are)
 
+          pub task-small : pair .task < 256
+          task-small = omega (arith, task-below, few-tasks)
+
+          pub starts-room : pair .task < length starts
+          starts-room = omega (arith, task-below, R .for-starts, Y .untouched .starts-size)
+
+          pub processors-room : pair .task < length processors
+          processors-room = omega (arith, task-below, R .for-processors, Y .untouched .processors-size)
+
           pub processor-below : pair .processor < 16
           processor-below = omega (arith, put-is .processor-below, X .arrays .few-processors)
 
@@ -256,8 +265,7 @@ module _ {I : Instance} {m n l : ℕ} {durations from to counts : List ℕ} {cos
                 few-rounds = omega (arith, more-rounds, X .tasks-are);
                 in-step = rw (B .starts-are, B .processors-are, B .busy-are, e-is, finish-is)
                     (progress put-is runs-are to sound (X .arrays) (Y .in-step) (λ P p. X .cost-is (pair .processor) P (put-is .processor-below) p)
-                    (omega (arith, task-below, R .for-starts, Y .untouched .starts-size)) (omega (arith, task-below, R .for-processors, Y .untouched .processors-size))
-                    (omega (arith, task-below, few-tasks, Y .waiting-size)) (omega (arith, processor-below, Y .busy-size)) sent
+                    starts-room processors-room (omega (arith, task-small, Y .waiting-size)) (omega (arith, processor-below, Y .busy-size)) sent
                     (subst (λ (k : ℕ). Skipped waiting′ low k low′) (sym (X .tasks-are)) (B .skipped)));
                 untouched = rw (B .starts-are, B .processors-are)
                     (untouched-put (Y .untouched) sent (λ k q. X .arrays .within k (omega (arith, run-within)) .1)

@@ -1,8 +1,8 @@
 -- `checker::trouble`: what the three calls answer is the checker's number for the plan (Laws/Checked), and where no task is in trouble
 -- the tasks can be judged.
 use borrow.Author.Needs.{needs}
-use Rattle.schedule.specs.Laws.Given.{cost-small}
-use Rattle.schedule.specs.Laws.Checked.{edges-there, edge-fits, says-place, processor-most, judgeable, says-overlap, says-early, says-nothing}
+use Rattle.schedule.specs.Laws.Given.{edges-there, cost-small}
+use Rattle.schedule.specs.Laws.Checked.{edge-fits, says-place, processor-most, judgeable, says-overlap, says-early, says-nothing}
 use Rattle.schedule.proofs.checker.trouble.Statement.{statement}
 use Rattle.schedule.proofs.checker.trouble.Tie as tie
 
