@@ -1,7 +1,10 @@
-# make test         the gate: the cases are what the generator makes, then all is proved, refused and run from nothing
+# make test         the gate: the cases are what the generator makes, the C host and the differential, where there is a C
+#                   compiler, then all is proved, refused and run from nothing
 # make check        proves what has changed, and runs the programs
 # make vectors      makes the cases of crates/vectors again
 # make definitions  holds the definitions of crate etf to the reference planner on random jobs: SEED=.. JOBS=..
+# make host         runs the C host over the static library of the planner and the checker
+# make differential holds the static library to the reference planner on random jobs and plans: SEED=.. JOBS=..
 # make bench        times the job reader and writer against a plain Rust reader and writer
 # make clean        removes what was made
 
@@ -9,9 +12,12 @@ need = @command -v $(1) >/dev/null 2>&1 || { echo "$(1) is not on the path: $(2)
 need-rt = $(call need,rt,install the Rattle kit and link its bin/rt)
 need-python = $(call need,python3,install Python 3)
 need-rust = $(call need,rustc,install Rust)
-need-cc = $(call need,cc,install a C compiler; rustc links with it)
+need-cc = $(call need,cc,install a C compiler)
 
-.PHONY: test check vectors definitions bench clean
+LIBRARY = target/staticlib/libschedule.a
+LIBRARY_SOURCES = $(shell find crates/job crates/etf crates/schedule -name '*.rt' -o -name '*.antt')
+
+.PHONY: test check vectors definitions host differential bench clean
 
 test:
 	@.ci/run
@@ -28,6 +34,20 @@ definitions:
 	$(need-rt)
 	$(need-python)
 	@python3 tests/definitions.py seed=$(SEED) jobs=$(JOBS)
+
+$(LIBRARY): crates.txt $(LIBRARY_SOURCES)
+	$(need-rt)
+	$(need-cc)
+	@rt staticlib schedule
+
+host: $(LIBRARY)
+	$(need-cc)
+	@tests/c_host/run
+
+differential: $(LIBRARY)
+	$(need-cc)
+	$(need-python)
+	@python3 tests/differential/differential.py seed=$(SEED) jobs=$(JOBS)
 
 bench:
 	$(need-rt)

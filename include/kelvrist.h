@@ -1,0 +1,144 @@
+/* Kelvrist: plans a job for linked processors, and checks plans. Library libschedule.a.
+ *
+ * A job is a platform of 1 to 16 equal processors, 1 to 256 tasks and up to 1,024 edges. An edge says
+ * that one task sends messages to another, which cannot start before they are there. A plan gives each
+ * task a processor and a start. Times are whole ticks. (The customer's papers call a platform a rack,
+ * a processor a board, a task a step and an edge a link.)
+ *
+ *     uint8_t plan[KELVRIST_PLAN_BYTES];
+ *     uint32_t answer = kelvrist_plan(job, job_length, plan, sizeof plan);
+ *     if (answer != KELVRIST_OK)
+ *         return answer;
+ *     for (t = 0; t < tasks; t++)
+ *         begin(t, plan[5 * t], start_in(plan + 5 * t + 1));
+ *
+ * Any bytes may be handed in, and every call returns. What the two functions answer is proved for all
+ * inputs; the statements are in crates/schedule/specs/PlanBytes.antt.
+ *
+ *
+ * The job's bytes
+ *
+ * Records, each of one byte of kind and a body. Numbers of more than one byte are little-endian.
+ *
+ *     kind  name  body
+ *     1     rack  processors n (1 byte, 1 to 16), wiring (1 byte: 0 flat, 1 cube, 2 ring),
+ *                 unit cost c (1 byte, 0 to 100)
+ *     2     step  a task: duration (4 bytes, 1 to 1,000,000)
+ *     3     link  an edge: from (1 byte), to (1 byte), message count (2 bytes, 1 to 1,000)
+ *     4     end   none
+ *
+ * One rack, then the steps, then the links, then the end record and no more bytes. Tasks are numbered
+ * from 0 as they stand; m is how many there are. An edge has from below to and to below m. Edges rise
+ * by from, then by to, and no pair stands twice.
+ *
+ * Messages from processor p to processor q take their count times c times the hops: 0 from a processor
+ * to itself; else 1 (flat), the number of binary places in which p and q differ (cube), or the shorter
+ * way round (ring).
+ *
+ *
+ * The plan's bytes
+ *
+ * 5 bytes a task, by the task's number: task t has its processor at place 5t (1 byte, 0 to n - 1) and
+ * its start at places 5t + 1 to 5t + 4 (little-endian). So a plan has 5m bytes, at most 1,280.
+ *
+ *
+ * What a caller sees to
+ *
+ * - A pointer is valid for as many bytes as the length beside it says, and is not null, also where that
+ *   length is 0.
+ * - The bytes of the job and of the plan do not overlap, and nobody else writes to them during a call,
+ *   nor reads the plan that kelvrist_plan is filling.
+ * - The stack has room: kelvrist_plan takes about 40 KB, kelvrist_check about 20 KB.
+ *
+ * The library takes nothing from the heap, has no global data and keeps nothing between calls: calls
+ * may run at the same time in different threads. Of the C library it needs memcpy and memset alone. It
+ * is built for x86-64.
+ */
+#ifndef KELVRIST_H
+#define KELVRIST_H
+
+#include <stddef.h>
+#include <stdint.h>
+
+#ifdef __cplusplus
+extern "C" {
+#endif
+
+/* The greatest of each. A job or a plan buffer of these lengths is enough for every job. */
+#define KELVRIST_PROCESSORS 16
+#define KELVRIST_TASKS 256
+#define KELVRIST_EDGES 1024
+#define KELVRIST_JOB_BYTES 6405
+#define KELVRIST_PLAN_BYTES 1280
+#define KELVRIST_LATEST_START 600000000
+
+/* What a call returns.
+ *
+ * The first trouble counts. Records are judged from the left, and within a record the order is 2, 3,
+ * 5, 1, 4, 6, 7; then come 8 and 9. kelvrist_check goes on with each task by number, 10 before 11, then
+ * with 12 for any two tasks, then with 13 for any edge.
+ */
+enum kelvrist_answer {
+    /* The job is planned, or the plan handed in is good. */
+    KELVRIST_OK = 0,
+
+    /* The job is refused: either function. */
+
+    /* The job's bytes end where a record or the rest of one is due. An empty job is one such. */
+    KELVRIST_JOB_ENDS_EARLY = 1,
+    /* A record's kind is not 1 to 4. */
+    KELVRIST_KIND_UNKNOWN = 2,
+    /* A record of a known kind may not stand here: the first is no rack, a rack stands again, a link or
+     * the end stands before any step, or a step stands after a link. */
+    KELVRIST_KIND_OUT_OF_PLACE = 3,
+    /* A number of processors, wiring, unit cost, duration or message count is outside its range. */
+    KELVRIST_VALUE_OUT_OF_RANGE = 4,
+    /* There is a task past 256 or an edge past 1,024. */
+    KELVRIST_TOO_MANY = 5,
+    /* An edge has a from that is not below its to, or a to that is not below m. */
+    KELVRIST_EDGE_ENDS = 6,
+    /* An edge does not stand above the one before it, by from, then by to. */
+    KELVRIST_EDGE_ORDER = 7,
+    /* Bytes follow the end record. */
+    KELVRIST_BYTES_AFTER_END = 8,
+
+    /* The plan's buffer is refused: either function. */
+
+    /* It is shorter than 5m bytes. */
+    KELVRIST_PLAN_TOO_SHORT = 9,
+
+    /* The plan handed in is refused: kelvrist_check alone. */
+
+    /* A task's processor is not below n. */
+    KELVRIST_NO_SUCH_PROCESSOR = 10,
+    /* A task's start is above 600,000,000. */
+    KELVRIST_START_TOO_LATE = 11,
+    /* Two tasks overlap on one processor. One may start in the tick in which the other finishes. */
+    KELVRIST_OVERLAP = 12,
+    /* A task starts before messages sent to it are there: before the sender's finish plus their time. */
+    KELVRIST_BEFORE_MESSAGES = 13
+};
+
+/* Plans a job: earliest task first (Algorithm ETF of Hwang, Chow, Anger and Lee), ties to the lowest
+ * task, then to the lowest processor. The same job gives the same plan always, and kelvrist_check
+ * accepts it.
+ *
+ * On KELVRIST_OK the first 5m bytes of the plan are filled, and no other byte is altered.
+ * On 1 to 9 nothing is altered. 10 to 13 are not returned.
+ */
+uint32_t kelvrist_plan(const uint8_t *job, size_t job_length, uint8_t *plan, size_t plan_length);
+
+/* Judges a plan for a job: every processor is below n, every start at most 600,000,000, no two tasks
+ * overlap on a processor, and no task starts before the messages sent to it are there. The plan need
+ * not be kelvrist_plan's.
+ *
+ * Returns KELVRIST_OK for a good plan, or 1 to 13. The first 5m bytes of the plan are read, no others;
+ * nothing is altered.
+ */
+uint32_t kelvrist_check(const uint8_t *job, size_t job_length, const uint8_t *plan, size_t plan_length);
+
+#ifdef __cplusplus
+}
+#endif
+
+#endif

@@ -1,0 +1,80 @@
+/* The two calls. What is lent stands between guard bytes in a field of fill bytes; after the call every byte
+ * that it may not alter is held to what it was. */
+#include <string.h>
+
+#include "host.h"
+
+enum { GUARD = 64, ROOM = FILE_ROOM };
+
+struct field {
+    const char *name;
+    uint8_t now[GUARD + ROOM + GUARD];
+    uint8_t before[GUARD + ROOM + GUARD];
+};
+
+static struct field jobs = {.name = "job"};
+static struct field plans = {.name = "plan"};
+
+static uint8_t *lay(struct field *field, const uint8_t *bytes, size_t length)
+{
+    memset(field->before, fill, sizeof field->before);
+    memcpy(field->before + GUARD, bytes, length);
+    memcpy(field->now, field->before, sizeof field->now);
+    return field->now + GUARD;
+}
+
+/* Of what was lent the first `free` bytes may be altered, and nothing else. */
+static void unaltered(const char *call, const struct field *field, size_t free)
+{
+    for (size_t i = 0; i < sizeof field->now; i++) {
+        long at = (long)i - GUARD;
+        if (at >= 0 && at < (long)free)
+            continue;
+        if (field->now[i] != field->before[i])
+            fail("%s altered the byte at place %ld of the %s: it was %02x and is %02x", call, at, field->name,
+                 field->before[i], field->now[i]);
+    }
+}
+
+/* Plans into a buffer of the plan's length, which holds fill bytes before. */
+uint32_t call_plan(const struct file *file, size_t tasks, struct plan *plan)
+{
+    memset(plan->bytes, fill, sizeof plan->bytes);
+    uint8_t *job = lay(&jobs, file->bytes, file->length);
+    uint8_t *lent = lay(&plans, plan->bytes, plan->length);
+    uint32_t answer = kelvrist_plan(job, file->length, lent, plan->length);
+
+    calls++;
+    unaltered("kelvrist_plan", &jobs, 0);
+    unaltered("kelvrist_plan", &plans, answer == 0 ? 5 * tasks : 0);
+    memcpy(plan->bytes, lent, plan->length);
+    return answer;
+}
+
+uint32_t call_check(const struct file *file, const struct plan *plan)
+{
+    uint8_t *job = lay(&jobs, file->bytes, file->length);
+    uint8_t *lent = lay(&plans, plan->bytes, plan->length);
+    uint32_t answer = kelvrist_check(job, file->length, lent, plan->length);
+
+    calls++;
+    unaltered("kelvrist_check", &jobs, 0);
+    unaltered("kelvrist_check", &plans, 0);
+    return answer;
+}
+
+void want_plan(const struct file *file, size_t tasks, struct plan *plan, uint32_t answer)
+{
+    uint32_t got = call_plan(file, tasks, plan);
+
+    if (got != answer)
+        fail("kelvrist_plan returns %u where %u is due", got, answer);
+}
+
+void want_check(const struct file *file, const struct plan *plan, uint32_t answer)
+{
+    uint32_t got = call_check(file, plan);
+
+    if (got != answer)
+        fail("kelvrist_check returns %u where %u is due", got, answer);
+}

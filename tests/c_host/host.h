@@ -1,0 +1,73 @@
+/* What the files of the C host share. */
+#ifndef HOST_H
+#define HOST_H
+
+#include <stddef.h>
+#include <stdint.h>
+
+#include "kelvrist.h"
+
+enum { FLAT = 0, CUBE = 1, RING = 2 };
+
+/* Room for a job's bytes, also of a job with a record too many, and for a plan's. */
+enum { FILE_ROOM = KELVRIST_JOB_BYTES + 64, PLAN_ROOM = KELVRIST_PLAN_BYTES + 64 };
+
+/* A job held as numbers, good or bad. */
+struct edge {
+    uint32_t from, to, count;
+};
+
+struct job {
+    uint32_t processors, wiring, unit;
+    size_t tasks, edges;
+    uint32_t durations[KELVRIST_TASKS];
+    struct edge edge[KELVRIST_EDGES];
+};
+
+/* The bytes of a job, and of a plan. */
+struct file {
+    size_t length;
+    uint8_t bytes[FILE_ROOM];
+};
+
+struct plan {
+    size_t length;
+    uint8_t bytes[PLAN_ROOM];
+};
+
+/* main.c: what is under test, for the message of a failure; a failure ends the program. */
+void testing(const char *format, ...);
+void fail(const char *format, ...);
+extern uint8_t fill;
+extern unsigned long calls;
+
+/* jobs.c: jobs as bytes and plans as numbers. */
+void put_rack(struct file *file, uint32_t processors, uint32_t wiring, uint32_t unit);
+void put_step(struct file *file, uint32_t duration);
+void put_link(struct file *file, struct edge edge);
+void put_end(struct file *file);
+void put_byte(struct file *file, uint32_t byte);
+struct file file_of(const struct job *job);
+void place(struct plan *plan, size_t task, uint32_t processor, uint32_t start);
+uint32_t processor_in(const struct plan *plan, size_t task);
+uint32_t start_in(const struct plan *plan, size_t task);
+
+/* judge.c: whether a plan is good for a job, by document 01 and without the library. */
+uint32_t judge(const struct job *job, const struct plan *plan);
+
+/* guarded.c: the two calls, with guard bytes around what is lent. */
+uint32_t call_plan(const struct file *file, size_t tasks, struct plan *plan);
+uint32_t call_check(const struct file *file, const struct plan *plan);
+void want_plan(const struct file *file, size_t tasks, struct plan *plan, uint32_t answer);
+void want_check(const struct file *file, const struct plan *plan, uint32_t answer);
+
+/* The groups. */
+void worked_cases(void);
+void larger_jobs(void);
+void plans_handed_in(void);
+void order_of_refusals(void);
+void refused_jobs(void);
+void ends_of_ranges(void);
+void plan_buffers(void);
+
+#endif

@@ -1,0 +1,155 @@
+/* Larger jobs: each shape with each wiring, on 1, 5 and 16 processors, with three unit costs. The host's own judge
+ * judges their plans; where the placements can be told beforehand, they are held to that. */
+#include "host.h"
+
+static uint32_t state;
+
+/* A number from 1 to `most`, the same in every run (xorshift). */
+static uint32_t draw(uint32_t most)
+{
+    state ^= state << 13;
+    state ^= state >> 17;
+    state ^= state << 5;
+    return 1 + state % most;
+}
+
+static void add_edge(struct job *job, uint32_t from, uint32_t to)
+{
+    job->edge[job->edges++] = (struct edge){.from = from, .to = to, .count = draw(1000)};
+}
+
+static void chain(struct job *job)
+{
+    job->tasks = 256;
+    for (uint32_t t = 0; t < 255; t++)
+        add_edge(job, t, t + 1);
+}
+
+/* Task 0 sends to all, and all send to the last. */
+static void fork_join(struct job *job)
+{
+    job->tasks = 256;
+    for (uint32_t t = 1; t < 255; t++)
+        add_edge(job, 0, t);
+    for (uint32_t t = 1; t < 255; t++)
+        add_edge(job, t, 255);
+}
+
+/* 256 tasks and 1,024 edges, the most that a job can have. */
+static void greatest(struct job *job)
+{
+    static const uint32_t ahead[] = {9, 16, 23, 37, 64};
+
+    job->tasks = 256;
+    for (uint32_t t = 0; t < 256; t++)
+        for (size_t i = 0; i < 5 && job->edges < 1024; i++)
+            if (t + ahead[i] < 256)
+                add_edge(job, t, t + ahead[i]);
+    if (job->edges != 1024)
+        fail("the host makes %zu edges", job->edges);
+}
+
+static void no_edges(struct job *job)
+{
+    job->tasks = 256;
+}
+
+static const struct shape {
+    const char *name;
+    void (*make)(struct job *);
+} shapes[] = {{"chain", chain}, {"fork and join", fork_join}, {"greatest", greatest}, {"no edges", no_edges}};
+
+/* The library's answer to the plan with one placement changed is the judge's. */
+static void same_judgement(const struct job *job, const struct file *file, const struct plan *plan)
+{
+    for (size_t t = 0; t < job->tasks; t += 15) {
+        struct plan other = *plan;
+        uint32_t p = processor_in(plan, t), s = start_in(plan, t);
+        place(&other, t, p, s - 1);
+        want_check(file, &other, judge(job, &other));
+        place(&other, t, p, s + 1);
+        want_check(file, &other, judge(job, &other));
+        place(&other, t, (p + 1) % job->processors, s);
+        want_check(file, &other, judge(job, &other));
+    }
+}
+
+static struct plan planned(const struct job *job)
+{
+    struct file file = file_of(job);
+    struct plan plan = {.length = 5 * job->tasks};
+
+    want_plan(&file, job->tasks, &plan, 0);
+    uint32_t trouble = judge(job, &plan);
+    if (trouble != 0)
+        fail("the host's judge finds trouble %u in the plan", trouble);
+    want_check(&file, &plan, 0);
+    same_judgement(job, &file, &plan);
+    return plan;
+}
+
+static void placed_at(const struct plan *plan, size_t task, uint32_t processor, uint32_t start)
+{
+    if (processor_in(plan, task) != processor || start_in(plan, task) != start)
+        fail("task %zu is on processor %u at %u where processor %u at %u is due", task, processor_in(plan, task),
+             start_in(plan, task), processor, start);
+}
+
+/* On one processor nothing is idle between two tasks: the plan ends at the sum of the durations. */
+static void without_gap(const struct job *job, const struct plan *plan)
+{
+    uint32_t sum = 0, end = 0;
+
+    for (size_t t = 0; t < job->tasks; t++) {
+        uint32_t finish = start_in(plan, t) + job->durations[t];
+        sum += job->durations[t];
+        if (end < finish)
+            end = finish;
+    }
+    if (end != sum)
+        fail("the plan ends at %u where %u is due", end, sum);
+}
+
+static void one_job(const struct shape *shape, uint32_t processors, uint32_t wiring, uint32_t unit)
+{
+    struct job job = {.processors = processors, .wiring = wiring, .unit = unit};
+
+    testing("%s, %u processors, wiring %u, unit cost %u", shape->name, processors, wiring, unit);
+    state = 2463534242u;
+    shape->make(&job);
+    for (size_t t = 0; t < job.tasks; t++)
+        job.durations[t] = draw(unit == 0 ? 5 : 1000000);
+    struct plan plan = planned(&job);
+    if (processors == 1)
+        without_gap(&job, &plan);
+    if (shape->make == chain)
+        for (uint32_t t = 0, start = 0; t < 256; start += job.durations[t++])
+            placed_at(&plan, t, 0, start);
+}
+
+/* Equal tasks with no edges go round the processors, row by row. */
+static void equal_tasks(uint32_t processors)
+{
+    struct job job = {.processors = processors, .wiring = RING, .unit = 100};
+
+    testing("equal tasks on %u processors", processors);
+    no_edges(&job);
+    for (size_t t = 0; t < 256; t++)
+        job.durations[t] = 1000000;
+    struct plan plan = planned(&job);
+    for (uint32_t t = 0; t < 256; t++)
+        placed_at(&plan, t, t % processors, t / processors * 1000000);
+}
+
+void larger_jobs(void)
+{
+    static const uint32_t processors[] = {1, 5, 16}, units[] = {0, 2, 100};
+
+    for (size_t s = 0; s < sizeof shapes / sizeof shapes[0]; s++)
+        for (size_t n = 0; n < 3; n++)
+            for (uint32_t wiring = FLAT; wiring <= RING; wiring++)
+                for (size_t c = 0; c < 3; c++)
+                    one_job(&shapes[s], processors[n], wiring, units[c]);
+    for (size_t n = 0; n < 3; n++)
+        equal_tasks(processors[n]);
+}

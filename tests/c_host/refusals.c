@@ -1,0 +1,166 @@
+/* Jobs that are refused, by either call and whatever is lent for the plan; the ends of each range; plan buffers. */
+#include <string.h>
+
+#include "host.h"
+
+/* Document 01's small inputs, and places where two refusals meet. The bytes are hexadecimal. */
+static const struct {
+    const char *what;
+    const char *bytes;
+    uint32_t answer;
+} refused[] = {
+    {"empty", "", 1},
+    {"a rack that is cut", "01 02 00", 1},
+    {"a rack alone", "01 02 00 02", 1},
+    {"a step that is cut", "01 02 00 02 02 05 00 00", 1},
+    {"a link that is cut", "01 02 00 02 02 05 00 00 00 02 05 00 00 00 03 00 01 01", 1},
+    {"no end record", "01 02 00 02 02 05 00 00 00", 1},
+    {"kind 9", "09", 2},
+    {"kind 0", "00", 2},
+    {"kind 5 after a step", "01 02 00 02 02 05 00 00 00 05", 2},
+    {"a step first", "02 01 00 00 00", 3},
+    {"the end first", "04", 3},
+    {"a rack again", "01 02 00 02 01 02 00 02", 3},
+    {"a link with no step", "01 02 00 02 03 00 01 01 00", 3},
+    {"the end with no step", "01 02 00 02 04", 3},
+    {"a step after a link", "01 02 00 02 02 05 00 00 00 02 05 00 00 00 03 00 01 01 00 02 05 00 00 00 04", 3},
+    {"no processors", "01 00 00 05", 4},
+    {"wiring 3", "01 02 03 05", 4},
+    {"from 0 to 0", "01 02 00 02 02 05 00 00 00 03 00 00 01 00", 6},
+    {"to is no task", "01 02 00 02 02 05 00 00 00 03 00 01 01 00", 6},
+    {"from above to", "01 02 00 02 02 05 00 00 00 02 05 00 00 00 03 01 00 01 00", 6},
+    {"a link twice", "01 02 00 02 02 05 00 00 00 02 05 00 00 00 03 00 01 01 00 03 00 01 01 00", 7},
+    {"a byte after the end", "01 02 00 02 02 05 00 00 00 04 00", 8},
+    {"the end twice", "01 02 00 02 02 05 00 00 00 04 04", 8},
+    {"2 before 1", "01 02 00 02 09", 2},
+    {"3 before 1", "01 02 00 02 03", 3},
+    {"1 before 4", "01 00 00", 1},
+    {"4 before 6", "01 02 00 02 02 05 00 00 00 03 00 00 00 00", 4},
+    {"6 before 7",
+     "01 02 00 02 02 05 00 00 00 02 05 00 00 00 02 05 00 00 00 03 01 02 01 00 03 01 01 01 00", 6},
+    {"the first trouble", "01 11 00 02 09", 4},
+};
+
+static int digit(char c)
+{
+    const char *digits = "0123456789abcdef";
+
+    return (int)(strchr(digits, c) - digits);
+}
+
+static struct file file_of_hex(const char *text)
+{
+    struct file file = {0};
+
+    for (; *text != '\0'; text++) {
+        if (*text == ' ')
+            continue;
+        put_byte(&file, (uint32_t)(16 * digit(text[0]) + digit(text[1])));
+        text++;
+    }
+    return file;
+}
+
+static void want_refused(const struct file *file, uint32_t answer)
+{
+    static const size_t lengths[] = {0, 1, 10, KELVRIST_PLAN_BYTES, KELVRIST_PLAN_BYTES + 1};
+
+    for (size_t i = 0; i < sizeof lengths / sizeof lengths[0]; i++) {
+        struct plan plan = {.length = lengths[i]};
+        want_plan(file, 0, &plan, answer);
+        want_check(file, &plan, answer);
+    }
+}
+
+static struct file many(size_t tasks, size_t edges)
+{
+    struct file file = {0};
+
+    put_rack(&file, 2, FLAT, 2);
+    for (size_t t = 0; t < tasks; t++)
+        put_step(&file, 5);
+    for (uint32_t from = 0; from < 256; from++)
+        for (uint32_t to = from + 1; to < 256 && edges > 0; to++, edges--)
+            put_link(&file, (struct edge){from, to, 1});
+    return file;
+}
+
+void refused_jobs(void)
+{
+    for (size_t i = 0; i < sizeof refused / sizeof refused[0]; i++) {
+        testing("%s", refused[i].what);
+        struct file file = file_of_hex(refused[i].bytes);
+        want_refused(&file, refused[i].answer);
+    }
+    testing("257 steps");
+    struct file file = many(257, 0);
+    want_refused(&file, 5);
+    testing("1,025 links");
+    file = many(256, 1025);
+    want_refused(&file, 5);
+    testing("5 before 1");
+    file = many(256, 1024);
+    put_byte(&file, 3);
+    want_refused(&file, 5);
+    testing("a byte after the greatest job");
+    file = many(256, 1024);
+    put_end(&file);
+    put_byte(&file, 4);
+    want_refused(&file, 8);
+}
+
+/* Two tasks and an edge: each value at an end of its range, and next to it. */
+static const struct {
+    uint32_t processors, wiring, unit, duration, count, answer;
+} ends[] = {
+    {1, FLAT, 2, 5, 1, 0},
+    {0, FLAT, 2, 5, 1, 4},
+    {16, FLAT, 2, 5, 1, 0},
+    {17, FLAT, 2, 5, 1, 4},
+    {2, RING, 2, 5, 1, 0},
+    {2, 3, 2, 5, 1, 4},
+    {2, FLAT, 0, 5, 1, 0},
+    {2, FLAT, 100, 5, 1, 0},
+    {2, FLAT, 101, 5, 1, 4},
+    {2, FLAT, 2, 1, 1, 0},
+    {2, FLAT, 2, 0, 1, 4},
+    {2, FLAT, 2, 1000000, 1, 0},
+    {2, FLAT, 2, 1000001, 1, 4},
+    {2, FLAT, 2, 5, 0, 4},
+    {2, FLAT, 2, 5, 1000, 0},
+    {2, FLAT, 2, 5, 1001, 4},
+};
+
+void ends_of_ranges(void)
+{
+    for (size_t i = 0; i < sizeof ends / sizeof ends[0]; i++) {
+        struct job job = {.processors = ends[i].processors, .wiring = ends[i].wiring, .unit = ends[i].unit,
+                          .tasks = 2, .durations = {5, ends[i].duration}, .edges = 1};
+        job.edge[0] = (struct edge){.from = 0, .to = 1, .count = ends[i].count};
+        struct file file = file_of(&job);
+        struct plan plan = {.length = 10};
+        testing("%u processors, wiring %u, unit cost %u, duration %u, message count %u", job.processors, job.wiring,
+                job.unit, ends[i].duration, ends[i].count);
+        want_plan(&file, 2, &plan, ends[i].answer);
+        want_check(&file, &plan, ends[i].answer);
+    }
+}
+
+/* Buffers of fewer, as many and more bytes than a plan has. */
+void plan_buffers(void)
+{
+    static const size_t tasks[] = {1, 2, 3, 255, 256};
+
+    for (size_t i = 0; i < sizeof tasks / sizeof tasks[0]; i++) {
+        size_t due = 5 * tasks[i];
+        const size_t lengths[] = {0, 1, due - 5, due - 1, due, due + 1, due + 7, due + 60};
+        struct file file = many(tasks[i], 0);
+        put_end(&file);
+        for (size_t l = 0; l < sizeof lengths / sizeof lengths[0]; l++) {
+            struct plan plan = {.length = lengths[l]};
+            testing("%zu tasks, a buffer of %zu bytes", tasks[i], lengths[l]);
+            want_plan(&file, tasks[i], &plan, lengths[l] < due ? 9 : 0);
+            want_check(&file, &plan, lengths[l] < due ? 9 : 0);
+        }
+    }
+}

@@ -1,0 +1,140 @@
+"""Random jobs of many shapes, and damaged ones. Small numbers make ties likely."""
+import etf
+from make_vectors import END, damaged, link, near, rack, step
+
+MOST_TASKS, MOST_EDGES = 256, 1024
+
+
+# ---- shapes: the pairs of tasks that have an edge
+
+def chain(dice, m):
+    return [(t, t + 1) for t in range(m - 1)]
+
+
+def fork_join(dice, m):
+    return [(0, t) for t in range(1, m - 1)] + [(t, m - 1) for t in range(1, m - 1)]
+
+
+def tree_out(dice, m):
+    return [(dice.below(t), t) for t in range(1, m)]
+
+
+def tree_in(dice, m):
+    return [(t, dice.between(t + 1, m - 1)) for t in range(m - 1)]
+
+
+def layered(dice, m):
+    width, share = dice.between(1, 8), dice.between(20, 100)
+    return [(a, b) for a in range(m) for b in range(a + 1, m)
+            if b // width == a // width + 1 and dice.below(100) < share]
+
+
+def dense(dice, m):
+    return [(a, b) for a in range(m) for b in range(a + 1, m)]
+
+
+def wide(dice, m):
+    """Few edges, or none."""
+    return dice.some(dense(dice, min(m, 40)), dice.below(4))
+
+
+def any_pairs(dice, m):
+    pairs = dense(dice, m)
+    return dice.some(pairs, dice.below(min(len(pairs), 3 * m) + 1))
+
+
+SHAPES = [chain, fork_join, tree_out, tree_in, layered, dense, wide, any_pairs]
+
+
+# ---- jobs
+
+def some_size(dice):
+    turn = dice.below(100)
+    if turn < 2:
+        return dice.one_of([MOST_TASKS, dice.between(150, MOST_TASKS)])
+    if turn < 10:
+        return dice.between(13, 70)
+    return dice.between(1, 12)
+
+
+def numbers(dice, most, count):
+    """So many numbers from 1 to most: all the same, small, near the ends, or any."""
+    same, small = near(dice, 1, most), dice.one_of([2, 3, 6, 20])
+    draw = dice.one_of([
+        lambda: same,
+        lambda: dice.between(1, small),
+        lambda: dice.between(1, small),
+        lambda: near(dice, 1, most),
+        lambda: dice.between(1, most),
+    ])
+    return [draw() for _ in range(count)]
+
+
+def some_job(dice):
+    m = some_size(dice)
+    pairs = dice.some(sorted(set(dice.one_of(SHAPES)(dice, m))), MOST_EDGES)
+    n = dice.one_of([1, 2, 3, 16, dice.between(2, 6), dice.between(1, 16)])
+    unit = dice.one_of([0, 1, 2, dice.between(1, 9), 100, dice.between(0, 100)])
+    counts = numbers(dice, 1000, len(pairs))
+    return etf.Job(n, dice.below(3), unit, numbers(dice, 1_000_000, m),
+                   [(a, b, count) for (a, b), count in zip(pairs, counts)])
+
+
+# ---- damaged files
+
+def too_many(dice):
+    """A task or an edge too many, whole or only begun."""
+    head = rack(dice.between(1, 16)) + step(dice.between(1, 9)) * MOST_TASKS
+    if dice.below(2):
+        return head + dice.one_of([step(), b"\x02", step(0), step() + END, END])
+    edges = b"".join(link(a, a + d) for a in range(MOST_TASKS) for d in range(1, 6) if a + d < MOST_TASKS)
+    return head + edges[: 5 * MOST_EDGES] + dice.one_of([link(254, 255), b"\x03", link(0, 0) + END, END])
+
+
+def any_records(dice):
+    """A rack and records as they come, now and then with a value out of range; the last is often cut."""
+    rows = [rack(dice.one_of([0, 1, 2, 2, 2, 16, 17]), dice.one_of([0, 0, 1, 2, 3]), dice.one_of([0, 2, 2, 100, 101]))]
+    for _ in range(dice.below(7)):
+        rows.append(dice.one_of([
+            step(), step(), step(dice.one_of([0, 1, 1_000_000, 1_000_001])),
+            link(dice.below(3), dice.between(1, 4)), link(dice.below(4), dice.below(4), dice.one_of([0, 1, 1000, 1001])),
+            END, rack(), bytes([dice.one_of([0, 5, 255])]),
+        ]))
+    data = b"".join(rows)
+    return data[: len(data) - dice.below(5)]
+
+
+def noise(dice):
+    """Random bytes, often small, after nothing or the head of a job."""
+    head = dice.one_of([b"", rack(), rack() + step(), rack() + step() * 2, rack() + step() * 2 + link(0, 1)])
+    return head + bytes(dice.below(dice.one_of([6, 256])) for _ in range(dice.below(24)))
+
+
+def bytes_damaged(dice, data):
+    """Some bytes changed, cut, doubled or inserted."""
+    for _ in range(dice.between(1, 3)):
+        i, j = sorted((dice.below(len(data) + 1), dice.below(len(data) + 1)))
+        data = dice.one_of([
+            data[:i] + bytes([dice.below(dice.one_of([6, 256]))]) + data[i + 1 :],
+            data[:i],
+            data[:i] + data[j:],
+            data[:j] + data[i:],
+            data + data,
+            data[:i] + bytes(dice.below(256) for _ in range(dice.between(1, 5))) + data[i:],
+        ])
+    return data
+
+
+def some_file(dice):
+    turn = dice.below(100)
+    if turn < 64:
+        return etf.write(some_job(dice))
+    if turn < 66:
+        return too_many(dice)
+    if turn < 70:
+        return noise(dice)
+    if turn < 80:
+        return any_records(dice)
+    if turn < 92:
+        return damaged(dice, some_job(dice))
+    return bytes_damaged(dice, etf.write(some_job(dice)))
