@@ -1,0 +1,18 @@
+//! The proved functions of crate `timing`, as C calls them: a slice is a pointer and a length.
+
+mod c {
+    extern "C" {
+        pub fn timing_read(file: *const u8, file_len: usize, place: usize) -> u32;
+        pub fn timing_copy(file: *const u8, file_len: usize, out: *mut u8, out_len: usize) -> u32;
+    }
+}
+
+/// Reads a job, and gives the number at one place of what was read.
+pub fn read(file: &[u8], place: usize) -> u32 {
+    unsafe { c::timing_read(file.as_ptr(), file.len(), place) }
+}
+
+/// Reads a job and writes it to `out`.
+pub fn copy(file: &[u8], out: &mut [u8]) -> u32 {
+    unsafe { c::timing_copy(file.as_ptr(), file.len(), out.as_mut_ptr(), out.len()) }
+}
