@@ -2,7 +2,7 @@
 # make check        proves what has changed, and runs the programs
 # make vectors      makes the cases of crates/vectors again
 # make definitions  holds the definitions of crate etf to the reference planner on random jobs: SEED=.. JOBS=..
-# make bench        times the job reader and writer against a plain Rust reader and writer
+# make bench        times reader and writer, planner and checker against plain Rust ones
 # make clean        removes what was made
 
 need = @command -v $(1) >/dev/null 2>&1 || { echo "$(1) is not on the path: $(2)"; exit 2; }
@@ -29,14 +29,19 @@ definitions:
 	$(need-python)
 	@python3 tests/definitions.py seed=$(SEED) jobs=$(JOBS)
 
-bench:
-	$(need-rt)
+bench: target/staticlib/libtiming.a target/staticlib/libschedule.a
 	$(need-rust)
 	$(need-cc)
-	@rt staticlib timing
 	@rustc --edition 2021 -O -C target-cpu=x86-64 -C codegen-units=1 \
-		-L native=target/staticlib -l static=timing -o target/bench bench/main.rs
+		-L native=target/staticlib -l static=timing -l static=schedule -o target/bench bench/main.rs
 	@target/bench crates/vectors/stdin
+
+# A library is proved and written again where a file of its crates is newer.
+target/staticlib/libtiming.a: $(shell find crates.txt crates/job crates/timing -type f)
+target/staticlib/libschedule.a: $(shell find crates.txt crates/job crates/etf crates/schedule -type f)
+target/staticlib/lib%.a:
+	$(need-rt)
+	@rt staticlib $*
 
 clean:
 	@rm -rf target

@@ -1,6 +1,11 @@
-//! Times the job reader and writer against a plain Rust reader and writer, in one run, and prints the ratio.
-//! First it holds the two against each other on the files of the cases of `vectors`, whose path is the first argument.
+//! Times the job reader and writer, the planner and the checker against plain Rust ones, in one run, and prints the ratios.
+//! First it holds each against the other on the files of the cases of `vectors`, whose path is the first argument, and more.
+mod checker;
+mod dice;
+mod families;
 mod job;
+mod planner;
+mod plans;
 mod proved;
 mod reader;
 mod timing;
@@ -9,8 +14,11 @@ fn main() {
     let path = std::env::args().nth(1).expect("the path of the cases");
     let cases = std::fs::read(&path).expect("the cases can be read");
     let files = reader::files(&cases);
+    let families = families::families();
     reader::hold(&files);
+    plans::hold(&files, &families);
 
     timing::head();
     reader::time();
+    plans::time(&families);
 }
