@@ -2,7 +2,7 @@
 # make check        proves what has changed, and runs the programs
 # make vectors      makes the cases of crates/vectors again
 # make definitions  holds the definitions of crate etf to the reference planner on random jobs: SEED=.. JOBS=..
-# make bench        times reader and writer, planner and checker against plain Rust ones
+# make bench        times reader, writer, planner and checker against plain Rust ones, and measures the stack
 # make clean        removes what was made
 
 need = @command -v $(1) >/dev/null 2>&1 || { echo "$(1) is not on the path: $(2)"; exit 2; }

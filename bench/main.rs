@@ -1,5 +1,6 @@
 //! Times the job reader and writer, the planner and the checker against plain Rust ones, in one run, and prints the ratios.
 //! First it holds each against the other on the files of the cases of `vectors`, whose path is the first argument, and more.
+//! Last it prints how much stack planner and checker take.
 mod checker;
 mod dice;
 mod families;
@@ -8,6 +9,7 @@ mod planner;
 mod plans;
 mod proved;
 mod reader;
+mod stack;
 mod timing;
 
 fn main() {
@@ -21,4 +23,5 @@ fn main() {
     timing::head();
     reader::time();
     plans::time(&families);
+    plans::measure_stack(&families);
 }

@@ -1,9 +1,9 @@
-//! The planner and the checker: held against the plain Rust ones, then timed.
+//! The planner and the checker: held against the plain Rust ones, then timed; and the stack that ours take.
 use std::hint::black_box;
 
 use crate::dice::Dice;
 use crate::families::{self, Family, Job, TASKS};
-use crate::{checker, planner, proved, timing};
+use crate::{checker, planner, proved, stack, timing};
 
 const RANDOM_JOBS: usize = 400;
 
@@ -164,4 +164,17 @@ fn time_checkers(family: &Family) {
 pub fn time(families: &[Family]) {
     families.iter().for_each(time_planners);
     families.iter().for_each(time_checkers);
+}
+
+/// The most stack that each of our calls takes on the jobs of the families.
+pub fn measure_stack(families: &[Family]) {
+    for (name, function) in proved::addresses() {
+        let files = families.iter().flat_map(|family| &family.files);
+        let most = files.map(|file| {
+            let mut plan = vec![0; 5 * TASKS];
+            proved::plan(file, &mut plan);
+            stack::depth(function, file, &mut plan)
+        });
+        println!("{name} takes {} bytes of stack", most.max().unwrap_or(0));
+    }
 }

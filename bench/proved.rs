@@ -32,3 +32,11 @@ pub fn plan(job: &[u8], plan: &mut [u8]) -> u32 {
 pub fn check(job: &[u8], plan: &[u8]) -> u32 {
     unsafe { c::kelvrist_check(job.as_ptr(), job.len(), plan.as_ptr(), plan.len()) }
 }
+
+/// The addresses of the two calls on a job and a plan, by name.
+pub fn addresses() -> [(&'static str, usize); 2] {
+    [
+        ("kelvrist_plan", c::kelvrist_plan as *const () as usize),
+        ("kelvrist_check", c::kelvrist_check as *const () as usize),
+    ]
+}
