@@ -59,7 +59,8 @@ impl Plan {
 
 /// Judges 5 bytes a task for the job of a file: 0 for a yes, or the refusal's number.
 pub fn check(file: &[u8], plan: &[u8]) -> u32 {
-    let reading = job::read(file);
+    let mut reading = Reading::blank();
+    job::read(file, &mut reading);
     let (tasks, edges) = match reading.verdict {
         Verdict::Counts { tasks, edges } => (tasks, edges),
         Verdict::Refused(number) => return u32::from(number),

@@ -1,7 +1,7 @@
 //! The job reader and writer: held against the plain Rust ones, then timed.
 use std::hint::black_box;
 
-use crate::job::{self, Verdict};
+use crate::job::{self, Reading, Verdict};
 use crate::{proved, timing};
 
 /// The places that `proved::read` takes: those of the four arrays, and one for the verdict.
@@ -11,7 +11,8 @@ const PLACES: usize = 256 + 3 * 1024 + 1;
 
 #[inline(never)]
 fn rust_read(file: &[u8], place: usize) -> u32 {
-    let r = job::read(file);
+    let mut r = Reading::blank();
+    job::read(file, &mut r);
     match place {
         0..256 => r.durations[place],
         256..1280 => u32::from(r.from[place - 256]),
@@ -26,7 +27,8 @@ fn rust_read(file: &[u8], place: usize) -> u32 {
 
 #[inline(never)]
 fn rust_copy(file: &[u8], out: &mut [u8]) -> u32 {
-    let r = job::read(file);
+    let mut r = Reading::blank();
+    job::read(file, &mut r);
     let (tasks, edges) = match r.verdict {
         Verdict::Counts { tasks, edges } => (tasks, edges),
         Verdict::Refused(number) => return u32::from(number),

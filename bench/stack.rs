@@ -5,9 +5,9 @@ const AREA: usize = 1 << 20;
 
 /// The bytes of stack that a C function on a job and a plan takes, its return address included.
 ///
-/// It runs on a stack of its own, an area of 1 MB that is filled with a pattern beforehand; the stack pointer is set to its top for
-/// the call. Afterwards the lowest byte that is not the pattern is the deepest one written. That is done with two patterns, as no
-/// byte that was written looks like both.
+/// It runs on a stack of its own, an area of 1 MB that is filled with a pattern beforehand; for the call the stack pointer is set
+/// to its top. Afterwards the lowest byte that is not the pattern is the deepest one written. That is done with two patterns, as
+/// no byte that was written looks like both.
 pub fn depth(function: usize, job: &[u8], plan: &mut [u8]) -> usize {
     let one = depth_by(0xA5, function, job, plan);
     one.max(depth_by(0x5A, function, job, plan))
