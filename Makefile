@@ -5,7 +5,7 @@
 # make definitions  holds the definitions of crate etf to the reference planner on random jobs: SEED=.. JOBS=..
 # make host         runs the C host over the static library of the planner and the checker
 # make differential holds the static library to the reference planner on random jobs and plans: SEED=.. JOBS=..
-# make bench        times the job reader and writer against a plain Rust reader and writer
+# make bench        times reader, writer, planner and checker against plain Rust ones, and measures the stack
 # make clean        removes what was made
 
 need = @command -v $(1) >/dev/null 2>&1 || { echo "$(1) is not on the path: $(2)"; exit 2; }
@@ -13,9 +13,6 @@ need-rt = $(call need,rt,install the Rattle kit and link its bin/rt)
 need-python = $(call need,python3,install Python 3)
 need-rust = $(call need,rustc,install Rust)
 need-cc = $(call need,cc,install a C compiler)
-
-LIBRARY = target/staticlib/libschedule.a
-LIBRARY_SOURCES = $(shell find crates/job crates/etf crates/schedule -name '*.rt' -o -name '*.antt')
 
 .PHONY: test check vectors definitions host differential bench clean
 
@@ -35,28 +32,29 @@ definitions:
 	$(need-python)
 	@python3 tests/definitions.py seed=$(SEED) jobs=$(JOBS)
 
-$(LIBRARY): crates.txt $(LIBRARY_SOURCES)
-	$(need-rt)
-	$(need-cc)
-	@rt staticlib schedule
-
-host: $(LIBRARY)
+host: target/staticlib/libschedule.a
 	$(need-cc)
 	@tests/c_host/run
 
-differential: $(LIBRARY)
+differential: target/staticlib/libschedule.a
 	$(need-cc)
 	$(need-python)
 	@python3 tests/differential/differential.py seed=$(SEED) jobs=$(JOBS)
 
-bench:
-	$(need-rt)
+bench: target/staticlib/libtiming.a target/staticlib/libschedule.a
 	$(need-rust)
 	$(need-cc)
-	@rt staticlib timing
 	@rustc --edition 2021 -O -C target-cpu=x86-64 -C codegen-units=1 \
-		-L native=target/staticlib -l static=timing -o target/bench bench/main.rs
+		-L native=target/staticlib -l static=timing -l static=schedule -o target/bench bench/main.rs
 	@target/bench crates/vectors/stdin
+
+# A library is proved and written again where a file of its crates is newer.
+sources = crates.txt $(shell find $(1) -name '*.rt' -o -name '*.antt')
+target/staticlib/libtiming.a: $(call sources,crates/job crates/timing)
+target/staticlib/libschedule.a: $(call sources,crates/job crates/etf crates/schedule)
+target/staticlib/lib%.a:
+	$(need-rt)
+	@rt staticlib $*
 
 clean:
 	@rm -rf target

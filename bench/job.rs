@@ -23,9 +23,9 @@ pub struct Reading {
 }
 
 impl Reading {
-    fn refused(number: u8) -> Self {
+    pub fn blank() -> Self {
         Reading {
-            verdict: Verdict::Refused(number),
+            verdict: Verdict::Refused(0),
             platform: Platform {
                 processors: 0,
                 topology: 0,
@@ -39,15 +39,14 @@ impl Reading {
     }
 }
 
-/// Reads a job file.
-pub fn read(file: &[u8]) -> Reading {
-    let mut reading = Reading::refused(0);
-    match fill(&mut reading, file) {
-        Ok((tasks, edges)) => {
-            reading.verdict = Verdict::Counts { tasks, edges };
-            reading
+/// Reads a job file into a blank reading, where the caller has it: nothing is copied.
+pub fn read(file: &[u8], reading: &mut Reading) {
+    match fill(reading, file) {
+        Ok((tasks, edges)) => reading.verdict = Verdict::Counts { tasks, edges },
+        Err(number) => {
+            *reading = Reading::blank();
+            reading.verdict = Verdict::Refused(number);
         }
-        Err(number) => Reading::refused(number),
     }
 }
 

@@ -1,0 +1,134 @@
+//! The jobs that planner and checker are timed on, in families: 256 tasks on 16 processors.
+use std::collections::BTreeSet;
+
+use crate::dice::Dice;
+
+pub const TASKS: usize = 256;
+
+/// Jobs of a family: so many that branch prediction cannot learn one by heart.
+const JOBS: usize = 16;
+
+/// Edges as pairs of from and to.
+type Shape = Vec<(usize, usize)>;
+
+/// A job as numbers: processors, topology and unit cost; durations; edges as from, to and count.
+pub struct Job {
+    pub platform: [usize; 3],
+    pub durations: Vec<usize>,
+    pub edges: Vec<(usize, usize, usize)>,
+}
+
+impl Job {
+    pub fn file(mut self) -> Vec<u8> {
+        self.edges.sort_unstable();
+        let mut file = vec![1];
+        file.extend(self.platform.map(|x| x as u8));
+        for duration in self.durations {
+            file.push(2);
+            file.extend((duration as u32).to_le_bytes());
+        }
+        for (from, to, count) in self.edges {
+            file.extend([3, from as u8, to as u8]);
+            file.extend((count as u16).to_le_bytes());
+        }
+        file.push(4);
+        file
+    }
+}
+
+pub struct Family {
+    pub name: &'static str,
+    pub files: Vec<Vec<u8>>,
+}
+
+/// Jobs of a shape on a hypercube, whose dearest message takes as long as the longest task.
+fn family(name: &'static str, shape: fn(&mut Dice) -> Shape) -> Family {
+    let dice = &mut Dice::new(1);
+    let files = (0..JOBS).map(|_| {
+        let edges = shape(dice).into_iter();
+        let edges = edges.map(|(from, to)| (from, to, dice.upto(50)));
+        Job {
+            edges: edges.collect(),
+            platform: [16, 1, 5],
+            durations: (0..TASKS).map(|_| dice.upto(1000)).collect(),
+        }
+        .file()
+    });
+    let files = files.collect();
+    Family { name, files }
+}
+
+fn chain(_: &mut Dice) -> Shape {
+    (1..TASKS).map(|t| (t - 1, t)).collect()
+}
+
+fn fork_join(_: &mut Dice) -> Shape {
+    let between = 1..TASKS - 1;
+    between.flat_map(|t| [(0, t), (t, TASKS - 1)]).collect()
+}
+
+fn out_tree(_: &mut Dice) -> Shape {
+    (1..TASKS).map(|t| ((t - 1) / 2, t)).collect()
+}
+
+fn in_tree(dice: &mut Dice) -> Shape {
+    let turned = |(from, to)| (TASKS - 1 - to, TASKS - 1 - from);
+    out_tree(dice).into_iter().map(turned).collect()
+}
+
+/// Layers of 16 tasks, each task after 4 of the layer before.
+fn layered(dice: &mut Dice) -> Shape {
+    let mut shape = Shape::new();
+    for to in 16..TASKS {
+        let (layer, first) = (to / 16 - 1, dice.below(16));
+        shape.extend((0..4).map(|i| (16 * layer + (first + 5 * i) % 16, to)));
+    }
+    shape
+}
+
+/// So many different edges among the first `tasks` tasks.
+pub fn some_edges(dice: &mut Dice, tasks: usize, edges: usize) -> Shape {
+    let mut shape = BTreeSet::new();
+    while shape.len() < edges {
+        let (a, b) = (dice.below(tasks), dice.below(tasks));
+        if a != b {
+            shape.insert((a.min(b), a.max(b)));
+        }
+    }
+    shape.into_iter().collect()
+}
+
+/// The slowest job for the planner that is known.
+///
+/// Tasks 0 and 1 begin at once on two processors and both send to all others, so that whichever processor a task is tried on, a
+/// message is still on its way: no pair can start at the clock, and none ends the search early. A task takes one tick and
+/// finishes before the messages of the next one arrive. So all ready tasks are looked at on all 16 processors to place one, then
+/// on the 15 that are left to find that none can start before that one finishes. There are no more rounds than a placing and a
+/// move of the clock a task, and no round with more free processors. Counts fall, so that the last task goes first: the mark
+/// below which all tasks are placed does not move, and each task looked at takes the lead.
+fn worst() -> Vec<u8> {
+    let edges = (2..TASKS).flat_map(|to| [0, 1].map(|from| (from, to, 2 * (TASKS - to))));
+    Job {
+        platform: [16, 0, 100],
+        durations: vec![1; TASKS],
+        edges: edges.collect(),
+    }
+    .file()
+}
+
+pub fn families() -> [Family; 9] {
+    [
+        family("chain", chain),
+        family("fork-join", fork_join),
+        family("in-tree", in_tree),
+        family("out-tree", out_tree),
+        family("layered", layered),
+        family("dense", |dice| some_edges(dice, TASKS, 1024)),
+        family("random", |dice| some_edges(dice, TASKS, 400)),
+        family("wide", |_| Shape::new()),
+        Family {
+            name: "worst",
+            files: vec![worst()],
+        },
+    ]
+}

@@ -1,0 +1,180 @@
+//! The planner and the checker: held against the plain Rust ones, then timed; and the stack that ours take.
+use std::hint::black_box;
+
+use crate::dice::Dice;
+use crate::families::{self, Family, Job, TASKS};
+use crate::{checker, planner, proved, stack, timing};
+
+const RANDOM_JOBS: usize = 400;
+
+/// How often each answer came, by its number.
+struct Tally([usize; 14]);
+
+impl Tally {
+    fn count(&mut self, answer: u32) {
+        self.0[answer as usize] += 1;
+    }
+
+    fn print(&self, what: &str) {
+        let seen = self.0.iter().enumerate().filter(|(_, &often)| often > 0);
+        let seen: Vec<_> = seen
+            .map(|(answer, often)| format!("{answer}: {often}"))
+            .collect();
+        println!("{what} agree; answers {}", seen.join(", "));
+    }
+}
+
+fn some_job(dice: &mut Dice) -> Job {
+    let most = dice.one_of(&[4, 20, 256]);
+    let tasks = dice.upto(most);
+    let longest = dice.one_of(&[2, 20, 1_000_000]);
+    let dearest = dice.one_of(&[2, 30, 1000]);
+    let most = (tasks * (tasks - 1) / 2).min(1024);
+    let edges = dice.below(most + 1).min(4 * tasks);
+    let shape = families::some_edges(dice, tasks, edges).into_iter();
+    let edges = shape.map(|(from, to)| (from, to, dice.upto(dearest)));
+    Job {
+        edges: edges.collect(),
+        platform: [dice.upto(16), dice.below(3), dice.one_of(&[0, 1, 7, 100])],
+        durations: (0..tasks).map(|_| dice.upto(longest)).collect(),
+    }
+}
+
+/// One byte changed, or some taken off the end, or one put there.
+fn damage(dice: &mut Dice, file: &mut Vec<u8>) {
+    let place = dice.below(file.len());
+    match dice.below(4) {
+        0 => file.truncate(place),
+        1 => file.push(0),
+        _ => file[place] = dice.one_of(&[0, 1, 3, 4, 5, 17, 255]),
+    }
+}
+
+/// A plan with a processor or a start changed, or too short.
+fn alter(dice: &mut Dice, plan: &mut Vec<u8>) {
+    let at = 5 * dice.below(plan.len() / 5);
+    let start = u32::from_le_bytes([plan[at + 1], plan[at + 2], plan[at + 3], plan[at + 4]]);
+    let start = match dice.below(6) {
+        0 => return plan.truncate(at),
+        1 => return plan[at] = dice.below(17) as u8,
+        2 => 600_000_000 + dice.below(2) as u32,
+        3 => start + dice.upto(9) as u32,
+        _ => start.saturating_sub(dice.upto(9) as u32),
+    };
+    plan[at + 1..at + 5].copy_from_slice(&start.to_le_bytes());
+}
+
+/// The same number and bytes from both planners, in plans that are long enough and too short; gives the plan.
+fn hold_planners(file: &[u8], tasks: usize, tally: &mut Tally) -> Vec<u8> {
+    let mut plan = Vec::new();
+    for room in [0, 5 * tasks - 1, 5 * tasks + 3, 5 * tasks] {
+        let mut ours = vec![0xEE; room];
+        plan = ours.clone();
+        let answer = proved::plan(file, &mut ours);
+        assert_eq!(
+            answer,
+            planner::plan(file, &mut plan),
+            "{room} bytes, job {file:?}"
+        );
+        assert!(ours == plan, "the plans differ: {room} bytes, job {file:?}");
+        tally.count(answer);
+    }
+    plan
+}
+
+fn hold_checkers(file: &[u8], plan: &[u8], tally: &mut Tally) {
+    let answer = proved::check(file, plan);
+    assert_eq!(
+        answer,
+        checker::check(file, plan),
+        "plan {plan:?}, job {file:?}"
+    );
+    tally.count(answer);
+}
+
+/// Random jobs, good and damaged, and their numbers of tasks.
+fn some_jobs(dice: &mut Dice) -> Vec<(Vec<u8>, usize)> {
+    let mut jobs = Vec::new();
+    for i in 0..RANDOM_JOBS {
+        let job = some_job(dice);
+        let tasks = job.durations.len();
+        let mut file = job.file();
+        if i % 4 == 0 {
+            damage(dice, &mut file);
+        }
+        jobs.push((file, tasks));
+    }
+    jobs
+}
+
+/// Holds planners and checkers against each other: on these files, on each job of the families, and on random jobs.
+pub fn hold(files: &[&[u8]], families: &[Family]) {
+    let dice = &mut Dice::new(2);
+    let (mut planned, mut checked) = (Tally([0; 14]), Tally([0; 14]));
+    let mut jobs = some_jobs(dice);
+    jobs.extend(files.iter().map(|file| (file.to_vec(), TASKS)));
+    let timed = families.iter().flat_map(|family| &family.files);
+    jobs.extend(timed.map(|file| (file.clone(), TASKS)));
+    for (file, tasks) in &jobs {
+        let mut plan = hold_planners(file, *tasks, &mut planned);
+        hold_checkers(file, &plan, &mut checked);
+        alter(dice, &mut plan);
+        hold_checkers(file, &plan, &mut checked);
+    }
+    planned.print(&format!("{} files: both planners", jobs.len()));
+    checked.print("their plans, as planned and altered: both checkers");
+}
+
+fn time_planners(family: &Family) {
+    let files = &family.files;
+    let (mut ours, mut rust) = ([0; 5 * TASKS], [0; 5 * TASKS]);
+    let times = timing::timed(
+        |i| {
+            let file = &files[i % files.len()];
+            black_box(proved::plan(black_box(file), black_box(&mut ours)));
+        },
+        |i| {
+            let file = &files[i % files.len()];
+            black_box(planner::plan(black_box(file), black_box(&mut rust)));
+        },
+    );
+    timing::report(&format!("plan {}", family.name), times);
+}
+
+fn time_checkers(family: &Family) {
+    let planned = |file: &Vec<u8>| {
+        let mut plan = vec![0; 5 * TASKS];
+        assert_eq!(proved::plan(file, &mut plan), 0);
+        (file.clone(), plan)
+    };
+    let pairs: Vec<_> = family.files.iter().map(planned).collect();
+    let times = timing::timed(
+        |i| {
+            let (file, plan) = &pairs[i % pairs.len()];
+            black_box(proved::check(black_box(file), black_box(plan)));
+        },
+        |i| {
+            let (file, plan) = &pairs[i % pairs.len()];
+            black_box(checker::check(black_box(file), black_box(plan)));
+        },
+    );
+    timing::report(&format!("check {}", family.name), times);
+}
+
+pub fn time(families: &[Family]) {
+    families.iter().for_each(time_planners);
+    families.iter().for_each(time_checkers);
+}
+
+/// The most stack that each of our calls takes on the jobs of the families.
+pub fn measure_stack(families: &[Family]) {
+    for (name, function) in proved::addresses() {
+        let files = families.iter().flat_map(|family| &family.files);
+        let most = files.map(|file| {
+            let mut plan = vec![0; 5 * TASKS];
+            proved::plan(file, &mut plan);
+            stack::depth(function, file, &mut plan)
+        });
+        println!("{name} takes {} bytes of stack", most.max().unwrap_or(0));
+    }
+}
