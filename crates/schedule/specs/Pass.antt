@@ -1,8 +1,6 @@
 -- What the private functions promise one another, in terms of the arrays that they are handed.
 -- A reader of the public contracts needs nothing of this file.
-use mathlib.Core.Bool.{Bool, true, false, not, _&&_, _||_}
-use mathlib.Core.Logic.{_⊎_}
-use mathlib.Core.Option.{Option}
+use mathlib.Core.Bool.{Bool, false, not, _&&_, _||_}
 use mathlib.Core.Path.{_≡_}
 use mathlib.Core.List.{List, [], _∷_}
 use Prim.Native.Nat.{ℕ, zero, suc, _+_, _*_, _-_, _≤_, _<_, max, min}
@@ -12,15 +10,13 @@ use Rattle.job.specs.declared.Platform.{Platform}
 use Rattle.job.specs.declared.Verdict.{Verdict}
 use Rattle.job.specs.declared.Verdict.the-variants.{Counts, Refused}
 use Rattle.job.specs.Number.{pick}
-use Rattle.job.specs.Job.{Job}
 use Rattle.job.specs.Accepted.{Accepted}
 use Rattle.job.specs.Write.{values, heldJob}
 use Rattle.etf.specs.Lists.{upto, filter}
-use Rattle.etf.specs.Instance.{Instance, tasks}
+use Rattle.etf.specs.Instance.{Instance}
 use Rattle.etf.specs.Schedule.{end}
 use Rattle.etf.specs.Topology.{cost, square}
 use Rattle.etf.specs.Rule.{planned}
-use Rattle.etf.specs.OfJob.{instance}
 use Rattle.etf.specs.Laws.Sums.{sum, one-if}
 use Rattle.schedule.specs.declared.planner.Pair.{Pair}
 use Rattle.schedule.specs.declared.planner.Moment.{Moment}

@@ -7,7 +7,7 @@ use lib.ListN.{length, getD, take, drop}
 use Rattle.job.specs.Number.{pick, number, bytes}
 use Rattle.job.specs.Read.{Answer, accepted, refused, readJob}
 use Rattle.etf.specs.Lists.{upto}
-use Rattle.etf.specs.Instance.{Instance, tasks}
+use Rattle.etf.specs.Instance.{tasks}
 use Rattle.etf.specs.OfJob.{instance}
 use Rattle.schedule.specs.Plan.{startOf, processorOf}
 use Rattle.schedule.specs.Check.{checkOf}

@@ -17,7 +17,7 @@ use Rattle.etf.specs.OfJob.{instance}
 use Rattle.schedule.specs.declared.planner.Pair.{Pair}
 use Rattle.schedule.specs.Pass.{InArrays, Room}
 use Rattle.schedule.specs.Laws.Given.{given, held-few, edges-there, row-size, cost-small}
-use Rattle.schedule.specs.Laws.Going.{Going, Setting, setting, going-start, going-done, more-rounds, clock-small, few-processors, arrivals-room, going-on, task-below, task-small, starts-room, processors-room, processor-below, finish-small, run-rises, run-within, enough-waiting, going-placed}
+use Rattle.schedule.specs.Laws.Going.{Going, Setting, setting, going-start, going-done, more-rounds, clock-small, few-processors, arrivals-room, going-on, task-small, starts-room, processors-room, processor-below, finish-small, run-rises, run-within, enough-waiting, going-placed}
 use Rattle.schedule.proofs.planner.run.Statement.{statement}
 use Rattle.schedule.proofs.planner.run.Tie as tie
 
