@@ -197,6 +197,7 @@ verdictNumber (Refused k) = k
 
 -- the first m tasks can be judged: their places are there, and no sum passes 32 bits
 pub record Judgeable (m : ℕ) (durations starts processors : List ℕ) : Type 0 where
+  pub few : m ≤ 256
   pub has-durations : m ≤ length durations
   pub has-starts : m ≤ length starts
   pub has-processors : m ≤ length processors

@@ -57,7 +57,7 @@ fn misplaced(tasks: usize, n: usize, starts: &[u32], processors: &[u8]) -> u8
     0
 }
 
-// Whether task t overlaps a later one on its processor.
+// Whether task t overlaps a later one on its processor. All are counted, so that the loop has no way out and is compiled to vector code.
 fn overlaps_later(
     t: usize,
     tasks: usize,
@@ -71,19 +71,21 @@ fn overlaps_later(
     let processor = processors[t];
     let start = starts[t];
     let finish = start + durations[t];
+    let mut found: u32 = 0;
     let mut u = t + 1;
     while u < tasks {
+        let other = starts[u];
+        let end = other + durations[u];
         if processors[u] == processor {
-            let other = starts[u];
             if other < finish {
-                if start < other + durations[u] {
-                    return true;
+                if start < end {
+                    found += 1;
                 }
             }
         }
         u += 1;
     }
-    false
+    found != 0
 }
 
 // Whether any two tasks overlap on a processor.

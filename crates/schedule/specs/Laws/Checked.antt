@@ -59,6 +59,7 @@ module _ {platform : Platform} {m l : ℕ} {durations from to counts : List ℕ}
 
       pub judgeable : (m ≤ length starts) × (m ≤ length processors) → Judgeable m durations starts processors
       judgeable h = record {
+        few = held-few A;
         has-durations = omega (arith, held-few A, A .durations-size);
         has-starts = h .0;
         has-processors = h .1;

@@ -1,12 +1,14 @@
--- `checker::overlaps_later`: the later tasks that are left have an overlap exactly if all of them have, as long as none was met.
-use mathlib.Core.Path.{_≡_, sym, _∙_}
+-- `checker::overlaps_later`: an overlap was counted, or the later tasks that are left have one, exactly if all of them have.
+use mathlib.Core.Path.{_≡_, refl, ap, sym, _∙_}
 use mathlib.Core.Logic.{⊎-elim}
-use mathlib.Core.Bool.{true, false}
+use mathlib.Core.Bool.{Bool, true, false, not, _||_}
 use mathlib.Core.List.{List}
 use Prim.Native.Nat.{ℕ, _+_, _-_, _≤_, _<_}
 use native.Mathlib.Numerals.{add-one}
+use native.Mathlib.Omega.{arith}
 use borrow.Author.Needs.{needs}
 use borrow.Author.Tests.{lt-ltb, le-ltb, eq-eqb, ne-eqb}
+use lib.Dec.{eqb}
 use lib.ListN.{getD}
 use Rattle.schedule.specs.Pass.{someIn, overlapAt, overlapsLater}
 use Rattle.schedule.specs.Laws.Rows.{none-left, met, passed}
@@ -36,18 +38,39 @@ module _ (durations starts processors : List ℕ) (t u : ℕ) where
   unfolding overlapAt
   elsewhere a = rw (ne-eqb _ _ a)
 
--- at the loop's start every later task is left
-start-left : (durations starts processors : List ℕ) (m t : ℕ)
-    → someIn (overlapAt durations starts processors t) (t + 1) (m - (t + 1)) ≡ overlapsLater durations starts processors m t
-unfolding overlapsLater
-start-left durations starts processors m t = rw (add-one t)
+-- an overlap was counted, or one is among the tasks from u on
+module _ (durations starts processors : List ℕ) (m t : ℕ) where
+  abbrev Counted : ℕ → ℕ → Type 0
+  Counted found u = (not (eqb found 0) || someIn (overlapAt durations starts processors t) u (m - u)) ≡ overlapsLater durations starts processors m t
+
+  none-yet : Counted 0 (t + 1)
+  unfolding overlapsLater
+  none-yet = rw (add-one t)
+
+  one-more : (found u : ℕ) → Counted found u → u < m → overlapAt durations starts processors t u ≡ true → Counted (found + 1) (u + 1)
+  one-more found u e h o =
+      rw (ne-eqb (found + 1) 0 (λ z. absurd (omega arith)))
+      (sym (all-true (not (eqb found 0))) ∙ (ap (λ (b : Bool). not (eqb found 0) || b) (sym (met (overlapAt durations starts processors t) u m h o)) ∙ e))
+    where
+      all-true : (b : Bool) → (b || true) ≡ true
+      all-true true = refl
+      all-true false = refl
+
+  no-more : (found u : ℕ) → Counted found u → u < m → overlapAt durations starts processors t u ≡ false → Counted found (u + 1)
+  no-more found u e h o = ap (λ (b : Bool). not (eqb found 0) || b) (sym (passed (overlapAt durations starts processors t) u m h o)) ∙ e
+
+  all-counted : (found u : ℕ) → Counted found u → m ≤ u → not (eqb found 0) ≡ overlapsLater durations starts processors m t
+  all-counted found u e h = sym (with-false (not (eqb found 0))) ∙ (ap (λ (b : Bool). not (eqb found 0) || b) (sym (none-left (overlapAt durations starts processors t) u m h)) ∙ e)
+    where
+      with-false : (b : Bool) → (b || false) ≡ b
+      with-false true = refl
+      with-false false = refl
 
 abbrev Inv-loop : tie.InvT-loop
-Inv-loop t tasks durations starts processors processor start finish u₀ u =
-    (t < u) × (u ≤ tasks) × (someIn (overlapAt durations starts processors t) u (tasks - u) ≡ overlapsLater durations starts processors tasks t)
+Inv-loop t tasks durations starts processors processor start finish found₀ u₀ found u = (t < u) × (u ≤ tasks) × (found ≤ u) × Counted durations starts processors tasks t found u
 
 abbrev μ-loop : tie.MeasureT-loop
-μ-loop t tasks durations starts processors processor start finish u₀ u = tasks - u
+μ-loop t tasks durations starts processors processor start finish found₀ u₀ found u = tasks - u
 
 shared-slice-read-processor : tie.Need-shared-slice-read-processor Inv-loop μ-loop
 shared-slice-read-processor c = search needs
@@ -74,10 +97,7 @@ add-u : tie.Need-add-u Inv-loop μ-loop
 add-u c = search needs
 
 loop-holds : tie.Need-loop-holds Inv-loop μ-loop
-loop-holds c = (search needs, search needs, start-left _ _ _ _ _)
-
-shared-slice-read-if1 : tie.Need-shared-slice-read-if1 Inv-loop μ-loop
-shared-slice-read-if1 c = search needs
+loop-holds c = (search needs, search needs, search needs, none-yet _ _ _ _ _)
 
 mul-other : tie.Need-mul-other Inv-loop μ-loop
 mul-other c = search needs
@@ -85,26 +105,26 @@ mul-other c = search needs
 shared-slice-read-other : tie.Need-shared-slice-read-other Inv-loop μ-loop
 shared-slice-read-other c = search needs
 
-mul-if3 : tie.Need-mul-if3 Inv-loop μ-loop
-mul-if3 c = search needs
+mul-end : tie.Need-mul-end Inv-loop μ-loop
+mul-end c = search needs
 
-shared-slice-read-if3 : tie.Need-shared-slice-read-if3 Inv-loop μ-loop
-shared-slice-read-if3 c = search needs
+shared-slice-read-end : tie.Need-shared-slice-read-end Inv-loop μ-loop
+shared-slice-read-end c = search needs
 
-add-if3 : tie.Need-add-if3 Inv-loop μ-loop
-add-if3 c =
-    let at-loop-test = c .before .before .before .before .before in
+add-end : tie.Need-add-end Inv-loop μ-loop
+add-end c =
+    let at-loop-test = c .before .before in
     let at-loop = at-loop-test .before in
     let judgeable = at-loop .before .before .before .before .pre .1 in
     search (needs, judgeable .in-time (at-loop .loop .u) (at-loop-test .loop-test .taken), judgeable .short (at-loop .loop .u) (at-loop-test .loop-test .taken))
 
-returns : tie.Need-returns Inv-loop μ-loop
-returns c =
-    let at-if2 = c .before .before in
-    let at-if1 = at-if2 .before .before in
-    let at-loop-test = at-if1 .before .before in
-    sym (met _ _ _ (at-loop-test .loop-test .taken) (overlaps _ _ _ _ _ (at-if1 .if1 .taken) (at-if2 .if2 .taken) (c .if3 .taken)))
-    ∙ at-loop-test .before .loop .inv .2
+shared-slice-read-if1 : tie.Need-shared-slice-read-if1 Inv-loop μ-loop
+shared-slice-read-if1 c = search needs
+
+add-found : tie.Need-add-found Inv-loop μ-loop
+add-found c =
+    let at-loop = c .before .before .before .before .before .before .before in
+    record { fits = omega (arith, at-loop .loop .inv .1, at-loop .loop .inv .2, at-loop .before .before .before .before .pre .1 .few) }
 
 add-u-2 : tie.Need-add-u-2 Inv-loop μ-loop
 add-u-2 c = search needs
@@ -114,19 +134,26 @@ loop-less c = search needs
 
 loop-again : tie.Need-loop-again Inv-loop μ-loop
 loop-again c =
-    let at-loop-test = c .before .before in (
+    let at-loop-test = c .before .before .before .before in
+    let at-loop = at-loop-test .before in
+    let more = at-loop-test .loop-test .taken in
+    let few = at-loop .loop .inv .2 in
+    let counted = at-loop .loop .inv .3 in (
       search needs,
       search needs,
-      sym (passed _ _ _ (at-loop-test .loop-test .taken)
+      ⊎-elim (λ w. omega (arith, w .3, few)) (⊎-elim (λ w. omega (arith, w .3, few)) (⊎-elim (λ w. omega (arith, w .2, few)) (λ w. omega (arith, w .1, few)))) (c .if1 .came),
+      ⊎-elim
+          (λ w. rw (w .3) (one-more _ _ _ _ _ (at-loop .loop .found) _ counted more (overlaps _ _ _ _ _ (w .0 .taken) (w .1 .taken) (w .2 .taken))))
           (⊎-elim
-          (λ w. finishes-before _ _ _ _ _ (w .0 .taken) (w .2 .taken) (w .4 .left))
-          (⊎-elim (λ w. starts-after _ _ _ _ _ (w .0 .taken) (w .2 .left)) (λ w. elsewhere _ _ _ _ _ (w .left)))
-          (c .if1 .came)))
-          ∙ at-loop-test .before .loop .inv .2,
+          (λ w. rw (w .3) (no-more _ _ _ _ _ (at-loop .loop .found) _ counted more (finishes-before _ _ _ _ _ (w .0 .taken) (w .1 .taken) (w .2 .left))))
+          (⊎-elim
+          (λ w. rw (w .2) (no-more _ _ _ _ _ (at-loop .loop .found) _ counted more (starts-after _ _ _ _ _ (w .0 .taken) (w .1 .left))))
+          (λ w. rw (w .1) (no-more _ _ _ _ _ (at-loop .loop .found) _ counted more (elsewhere _ _ _ _ _ (w .0 .left))))))
+          (c .if1 .came),
     )
 
-returns-2 : tie.Need-returns-2 Inv-loop μ-loop
-returns-2 c = sym (none-left _ _ _ (c .loop-test .left)) ∙ c .before .loop .inv .2
+returns : tie.Need-returns Inv-loop μ-loop
+returns c = all-counted _ _ _ _ _ (c .before .loop .found) _ (c .before .loop .inv .3) (c .loop-test .left)
 
 pub overlaps-later-spec : {M : Type 1} → statement M
 overlaps-later-spec =
@@ -142,14 +169,14 @@ overlaps-later-spec =
     add-finish
     add-u
     loop-holds
-    shared-slice-read-if1
     mul-other
     shared-slice-read-other
-    mul-if3
-    shared-slice-read-if3
-    add-if3
-    returns
+    mul-end
+    shared-slice-read-end
+    add-end
+    shared-slice-read-if1
+    add-found
     add-u-2
     loop-less
     loop-again
-    returns-2)
+    returns)
