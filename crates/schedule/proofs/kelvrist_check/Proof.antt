@@ -49,7 +49,7 @@ get-requires c κs =
     let at-if1 = c .before .before in
     let at-verdict = at-if1 .before .before in
     let read = read-as (at-verdict .before .before .read .ensures) (at-verdict .verdict .given .1) in
-    (few-tasks read, few-tasks read, at-if1 .if1 .left)
+    (omega (arith, few-tasks read), omega (arith, few-tasks read), omega (arith, at-if1 .if1 .left))
 
 square-requires : tie.Need-square-requires
 square-requires c κs =
