@@ -21,3 +21,12 @@ pub mod Checked
 pub mod Reading
 pub mod Entries
 pub mod OwnPlan
+pub mod FirstMost
+pub mod ByStart
+pub mod Stretches
+pub mod Moves
+pub mod Along
+pub mod Short
+pub mod Moved
+pub mod Walked
+pub mod Chained

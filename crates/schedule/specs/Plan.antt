@@ -1,5 +1,5 @@
 -- A call of the planner: its answer, and what the borrowed slices hold afterwards.
-use mathlib.Core.Bool.{_&&_, _||_}
+use mathlib.Core.Bool.{Bool, _&&_, _||_}
 use mathlib.Core.List.{List, _++_, map}
 use Prim.Native.Nat.{ℕ, _/_, _%_}
 use lib.Dec.{ltb}
@@ -47,10 +47,13 @@ module _ (I : Instance) where
       called (Plan (tasks I) (end I (planned I))) (filled startOf (tasks I) starts) (filled processorOf (tasks I) processors) (filled scratchAt 4096 scratch)
 
 -- 01: 9, "a lent slice too short": fewer than m starts, m processors or 4,096 places of scratch
--- (01: "Every refusal returns its number alone and alters no lent slice"); a refused job "is passed on with the reader's own number"
+abbrev pub tooShort : ℕ → List ℕ → List ℕ → List ℕ → Bool
+tooShort m starts processors scratch = ltb (length starts) m || (ltb (length processors) m || ltb (length scratch) 4096)
+
+-- 01: "Every refusal returns its number alone and alters no lent slice"; a refused job "is passed on with the reader's own number"
 unfoldable pub planFor : Answer → List ℕ → List ℕ → List ℕ → PlanCall
 planFor (accepted j) starts processors scratch =
-    pick (ltb (length starts) (tasks (instance j)) || (ltb (length processors) (tasks (instance j)) || ltb (length scratch) 4096))
+    pick (tooShort (tasks (instance j)) starts processors scratch)
     (called (Refused 9) starts processors scratch)
     (planAccepted (instance j) starts processors scratch)
 planFor (refused k) starts processors scratch = called (Refused k) starts processors scratch

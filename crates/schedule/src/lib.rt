@@ -1,4 +1,5 @@
-// The planner and the checker, for Rattle and for C (document 01).
+// The planner, the cover and the checker, for Rattle and for C (document 01).
+mod chains;
 mod checker;
 mod costs;
 mod encoding;
@@ -6,12 +7,14 @@ mod graph;
 mod hypercube;
 mod number;
 mod planner;
+mod walk;
 
 use job::Verdict;
 ghost use mathlib.Core.Path.{_≡_};
 ghost use Prim.Native.Nat.{_≤_};
 ghost use lib.ListN.{length};
 ghost use Rattle.schedule.specs.Plan.{called, filled, planCall};
+ghost use Rattle.schedule.specs.Cover.{covered, coverCall};
 ghost use Rattle.schedule.specs.Check.{checkCall};
 ghost use Rattle.schedule.specs.PlanBytes.{returned, planBytesCall, checkBytesCall};
 ghost use Rattle.schedule.specs.Pass.{verdictNumber};
@@ -19,6 +22,12 @@ ghost use Rattle.schedule.specs.Pass.{verdictNumber};
 // What planning a job gives: the number of its tasks and the plan's end, or the refusal's number.
 pub enum Planned {
     Plan { tasks: usize, end: u32 },
+    Refused(u8),
+}
+
+// What the cover call gives: the cover and the dearest chain of the planner's plan, or the refusal's number.
+pub enum Covered {
+    Cover { cover: u32, dearest: u32 },
     Refused(u8),
 }
 
@@ -84,6 +93,64 @@ pub fn plan(file: &[u8], starts: &mut [u32], processors: &mut [u8], scratch: &mu
         scratch,
     );
     Planned::Plan { tasks, end }
+}
+
+// Plans the job of a file, and measures the plan (01: the cover call).
+pub fn cover(file: &[u8], starts: &mut [u32], processors: &mut [u8], scratch: &mut [u32]) -> Covered
+    ensures { λ r. ⌜ covered r (now (starts .exit)) (now (processors .exit)) (now (scratch .exit)) ≡ coverCall (now (file .entry)) (now (starts .entry)) (now (processors .entry)) (now (scratch .entry)) ⌝ }
+{
+    let r = job::read(file);
+    let verdict = r.verdict;
+    let Verdict::Counts { tasks, edges } = verdict else {
+        return Covered::Refused(refusal(verdict));
+    };
+    if starts.len() < tasks {
+        return Covered::Refused(9);
+    }
+    if processors.len() < tasks {
+        return Covered::Refused(9);
+    }
+    if scratch.len() < 4096 {
+        return Covered::Refused(9);
+    }
+    clear(scratch);
+    let costs = costs::square(r.platform);
+    planner::run(
+        r.platform,
+        tasks,
+        edges,
+        &r.durations,
+        &r.from,
+        &r.to,
+        &r.counts,
+        costs,
+        starts,
+        processors,
+        scratch,
+    );
+    let cover = walk::cover(
+        r.platform,
+        tasks,
+        edges,
+        &r.durations,
+        &r.from,
+        &r.to,
+        &r.counts,
+        costs,
+        starts,
+        processors,
+    );
+    let dearest = chains::dearest(
+        r.platform,
+        tasks,
+        edges,
+        &r.durations,
+        &r.from,
+        &r.to,
+        &r.counts,
+        costs,
+    );
+    Covered::Cover { cover, dearest }
 }
 
 // Judges a plan for the job of a file (01: the checker).

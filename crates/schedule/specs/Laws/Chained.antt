@@ -1,0 +1,1 @@
+-- The dearest chain, by the arrays.

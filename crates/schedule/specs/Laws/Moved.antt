@@ -1,0 +1,1 @@
+-- The edge that the walk goes back along, by the arrays.

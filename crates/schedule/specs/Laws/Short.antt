@@ -1,0 +1,1 @@
+-- The latest short tick of the planner's schedule, by the arrays that hold it.

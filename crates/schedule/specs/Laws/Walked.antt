@@ -1,0 +1,1 @@
+-- The walk of the planner's schedule, by the arrays: what the moves back from its last task take is the cover.

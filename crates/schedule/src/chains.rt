@@ -1,0 +1,90 @@
+// The dearest chain (document 01, "The cover C").
+use crate::number;
+use job::Platform;
+ghost use mathlib.Core.Path.{_≡_};
+ghost use mathlib.Core.List.{[]};
+ghost use Prim.Native.Nat.{ℕ, _≤_, _<_};
+ghost use lib.ListN.{length, getD};
+ghost use Rattle.job.specs.Write.{heldJob};
+ghost use Rattle.etf.specs.OfJob.{instance};
+ghost use Rattle.etf.specs.Dearest.{dearest as dearestOf};
+ghost use Rattle.schedule.specs.Pass.{most as mostOf, InArrays};
+ghost use Rattle.schedule.specs.CoverPass.{greatestIn, chainBy, Chained};
+
+// The greatest of the first n numbers of a row.
+fn greatest_in(row: &[u32], n: usize) -> u32
+    requires { ⌜ n ≤ length (now row) ⌝ }
+    ensures { λ r. ⌜ r ≡ mostOf n (λ q. getD (now (row .entry)) q 0) ⌝ }
+{
+    let mut most: u32 = 0;
+    let mut q: usize = 0;
+    while q < n {
+        let cost = row[q];
+        if most < cost {
+            most = cost;
+        }
+        q += 1;
+    }
+    most
+}
+
+// The greatest cost between two of the first n processors.
+fn greatest_cost(costs: [[u32; 16]; 16], n: usize) -> u32
+    requires { ⌜ (n ≤ 16) × ((p : ℕ) → p < 16 → length (getD costs p []) ≡ 16) ⌝ }
+    ensures { λ r. ⌜ r ≡ greatestIn costs n ⌝ }
+{
+    let mut most: u32 = 0;
+    let mut p: usize = 0;
+    while p < n {
+        let row = costs[p];
+        let cost = greatest_in(&row, n);
+        if most < cost {
+            most = cost;
+        }
+        p += 1;
+    }
+    most
+}
+
+// The dearest chain of edges, where a message costs `cost`. Edges rise by from, so the sum at a task is whole before an edge leaves it.
+fn sum(edges: usize, from: &[u8], to: &[u8], counts: &[u16], cost: u32) -> u32
+    requires { ⌜ (edges ≤ length (now from)) × (edges ≤ length (now to)) × (edges ≤ length (now counts)) × (cost ≤ 800) ⌝ }
+    requires { ⌜ ((i k : ℕ) → i ≤ k → k < edges → getD (now from) i 0 ≤ getD (now from) k 0) ⌝ }
+    requires { ⌜ ((k : ℕ) → k < edges → (getD (now from) k 0 < getD (now to) k 0) × (getD (now to) k 0 < 256) × (getD (now counts) k 0 ≤ 1000)) ⌝ }
+    ensures { λ r. ⌜ ((sums : ℕ → ℕ) → Chained (now (from .entry)) (now (to .entry)) (now (counts .entry)) edges cost sums → r ≡ mostOf edges (chainBy (now (from .entry)) (now (counts .entry)) cost sums)) ⌝ }
+{
+    let mut sums = [0u32; 256];
+    let mut most: u32 = 0;
+    let mut k: usize = 0;
+    while k < edges {
+        let s = number::index(from[k]);
+        let t = number::index(to[k]);
+        let sum = sums[s] + number::wide16(counts[k]) * cost;
+        if sums[t] < sum {
+            sums[t] = sum;
+        }
+        if most < sum {
+            most = sum;
+        }
+        k += 1;
+    }
+    most
+}
+
+// The dearest chain of a job.
+pub fn dearest<'a>(
+    platform: Platform,
+    tasks: usize,
+    edges: usize,
+    durations: &'a [u32],
+    from: &'a [u8],
+    to: &'a [u8],
+    counts: &'a [u16],
+    costs: [[u32; 16]; 16],
+) -> u32
+    requires { ⌜ InArrays platform tasks edges (now durations) (now from) (now to) (now counts) costs ⌝ }
+    ensures { λ r. ⌜ r ≡ dearestOf (instance (heldJob platform tasks edges (now (durations .entry)) (now (from .entry)) (now (to .entry)) (now (counts .entry)))) ⌝ }
+{
+    let cost = greatest_cost(costs, number::index(platform.processors));
+    sum(edges, from, to, counts, cost)
+}
