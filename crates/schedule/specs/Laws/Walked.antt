@@ -1,1 +1,101 @@
 -- The walk of the planner's schedule, by the arrays: what the moves back from its last task take is the cover.
+use mathlib.Core.Path.{_≡_, refl, ap, sym, _∙_, subst}
+use mathlib.Core.Logic.{_⊎_, inl, inr}
+use mathlib.Core.Option.{none, some, bind}
+use mathlib.Core.List.{List}
+use Prim.Native.Nat.{ℕ, zero, suc, _+_, _≤_, _<_}
+use native.Mathlib.Omega.{arith}
+use borrow.Author.Tests.{lt-ltb, le-ltb}
+use lib.ListN.{getD}
+use Rattle.job.specs.declared.Platform.{Platform}
+use Rattle.job.specs.Write.{heldJob}
+use Rattle.etf.specs.Instance.{Instance, tasks}
+use Rattle.etf.specs.Schedule.{Placement, messageTimeTo}
+use Rattle.etf.specs.Rule.{planned}
+use Rattle.etf.specs.Cover.{Back, back, walk, cover}
+use Rattle.etf.specs.OfJob.{instance}
+use Rattle.etf.specs.Laws.Tests.{le-or-lt}
+use Rattle.etf.specs.Laws.Back.{walk-enough}
+use Rattle.schedule.specs.Pass.{most, InArrays}
+use Rattle.schedule.specs.CoverPass.{FirstMost, IdleBefore, reachInto, MovesBack, Moves, alongBack, HoldsPlan}
+use Rattle.schedule.specs.Laws.Given.{given, held-tasks}
+use Rattle.schedule.specs.Laws.Short.{no-short, latest-short}
+use Rattle.schedule.specs.Laws.Moved.{stops-there, goes-along, last-is}
+
+module _ {platform : Platform} {m l : ℕ} {durations from to counts : List ℕ} {costs : List (List ℕ)} (A : InArrays platform m l durations from to counts costs)
+    {starts processors : List ℕ} (H : HoldsPlan (instance (heldJob platform m l durations from to counts)) m starts processors)
+    {through back′ time : List ℕ}
+    (idle : (T : ℕ) → T < m → IdleBefore m durations starts processors (platform .processors) (getD starts T 0) (getD through T 0))
+    (M : Moves m l durations from to counts costs starts processors through back′ time) where
+  abbrev I : Instance
+  I = instance (heldJob platform m l durations from to counts)
+
+  abbrev ps : List Placement
+  ps = planned I
+
+  -- the move back from a task, by the walk and by the arrays
+  data BackAt (T : ℕ) : Type 0 where
+    stays : back I ps T ≡ none → getD back′ T 0 ≡ 256 → BackAt T
+    goes : (b : Back) → back I ps T ≡ some b → getD back′ T 0 ≡ b .edge .from → getD back′ T 0 < T
+        → getD time T 0 ≡ messageTimeTo I ps (b .through) (b .edge) → getD time T 0 ≤ 800000 → BackAt T
+
+  -- where no tick is short
+  none-short : (T : ℕ) → T < m → getD through T 0 ≡ 16 → BackAt T
+  unfolding back bind
+  none-short T b e =
+      let s = no-short A H T b (subst (λ (P : ℕ). IdleBefore m durations starts processors (platform .processors) (getD starts T 0) P) e (idle T b)) in
+      stays (rw s) (M .stays T b (omega (arith, e)))
+
+  -- where one is: along an edge, or there is no edge
+  at-short : (T P : ℕ) → T < m → P < 16 → IdleBefore m durations starts processors (platform .processors) (getD starts T 0) P
+      → MovesBack durations from to counts costs starts processors l T P (getD back′ T 0) (getD time T 0) → BackAt T
+  unfolding back bind
+  at-short T P b h i B = go (le-or-lt (most l (reachInto durations from to counts costs starts processors T P)) 0)
+    where
+      go : (most l (reachInto durations from to counts costs starts processors T P) ≤ 0)
+          ⊎ (0 < most l (reachInto durations from to counts costs starts processors T P)) → BackAt T
+      go (inl z) =
+          let s = latest-short A H T P b h i in
+          let w : most l (reachInto durations from to counts costs starts processors T P) ≡ 0 = omega (arith, z) in
+          stays (rw (s .1, s .2, stops-there A H T P _ _ b (i .short h .below) B w)) (B .stops w)
+      go (inr z) =
+          let s = latest-short A H T P b h i in
+          let w = goes-along A H T P _ _ b (i .short h .below) B z in
+          goes (record { edge = w .0; through = P }) (rw (s .1, s .2, w .1)) (w .2) (w .3) (w .4) (w .5)
+
+  back-at : (T : ℕ) → T < m → BackAt T
+  back-at T b = go (le-or-lt 16 (getD through T 0))
+    where
+      go : (16 ≤ getD through T 0) ⊎ (getD through T 0 < 16) → BackAt T
+      go (inl h) = none-short T b (omega (arith, h, idle T b .to-most))
+      go (inr h) = at-short T (getD through T 0) b h (idle T b) (M .moves T b h)
+
+  -- the moves go down, and none takes long
+  pub goes-down : (T : ℕ) → T < m → getD back′ T 0 < 256 → (getD back′ T 0 < T) × (getD time T 0 ≤ 800000)
+  goes-down T b h = go (back-at T b)
+    where
+      go : BackAt T → (getD back′ T 0 < T) × (getD time T 0 ≤ 800000)
+      go (stays e z) = absurd (omega arith)
+      go (goes w e f d t u) = (d, u)
+
+  few : m ≤ 256
+  few = omega (arith, held-tasks A, given A .few-tasks)
+
+  -- move by move, the arrays give what the walk adds
+  along-is : (k T : ℕ) → T < m → alongBack back′ time k T ≡ walk I ps k T
+  unfolding alongBack walk
+  along-is zero T b = refl
+  along-is (suc k) T b = go (back-at T b) (λ U h. along-is k U h)
+    where
+      go : BackAt T → ((U : ℕ) → U < m → alongBack back′ time k U ≡ walk I ps k U) → alongBack back′ time (suc k) T ≡ walk I ps (suc k) T
+      go (stays e z) r = rw (e, walk, z)
+      go (goes w e f d t u) r =
+          rw (e, walk, lt-ltb (getD back′ T 0) 256 (omega (arith, few)), t) (ap (λ (x : ℕ). messageTimeTo I ps (w .through) (w .edge) + x) (r _ (omega arith) ∙ ap (walk I ps k) f))
+
+  -- from the last task they give the cover
+  pub cover-is : {last : ℕ} → FirstMost 0 m (λ T. getD starts T 0 + getD durations T 0) last → alongBack back′ time 256 last ≡ cover I
+  unfolding cover
+  cover-is {last} F =
+      let z = last-is A H last F in
+      let same = held-tasks A in
+      rw (z .1, cover) (along-is 256 last (z .0) ∙ walk-enough I (given A .well) 256 (tasks I) last (omega (arith, z .0, few)) (omega (arith, z .0, same)) (omega (arith, z .0, same)))
