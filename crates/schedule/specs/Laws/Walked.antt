@@ -17,21 +17,30 @@ use Rattle.etf.specs.OfJob.{instance}
 use Rattle.etf.specs.Laws.Tests.{le-or-lt}
 use Rattle.etf.specs.Laws.Back.{walk-enough}
 use Rattle.schedule.specs.Pass.{most, InArrays}
-use Rattle.schedule.specs.CoverPass.{FirstMost, IdleBefore, reachInto, MovesBack, Moves, alongBack, HoldsPlan}
+use Rattle.schedule.specs.CoverPass.{FirstMost, Scheduled, IdleBefore, reachInto, MovesBack, Moves, alongBack, HoldsPlan}
 use Rattle.schedule.specs.Laws.Given.{given, held-tasks}
-use Rattle.schedule.specs.Laws.Short.{no-short, latest-short}
+use Rattle.schedule.specs.Laws.Short.{scheduled, no-short, latest-short}
 use Rattle.schedule.specs.Laws.Moved.{stops-there, goes-along, last-is}
 
 module _ {platform : Platform} {m l : ℕ} {durations from to counts : List ℕ} {costs : List (List ℕ)} (A : InArrays platform m l durations from to counts costs)
+    {starts processors : List ℕ} (H : HoldsPlan (instance (heldJob platform m l durations from to counts)) m starts processors) {n : ℕ} (e : n ≡ platform .processors) where
+  -- the arrays hold a schedule on n processors
+  pub scheduled-on : Scheduled m durations starts processors n
+  scheduled-on = rw e (scheduled A H)
+
+module _ {platform : Platform} {m l : ℕ} {durations from to counts : List ℕ} {costs : List (List ℕ)} (A : InArrays platform m l durations from to counts costs)
     {starts processors : List ℕ} (H : HoldsPlan (instance (heldJob platform m l durations from to counts)) m starts processors)
-    {through back′ time : List ℕ}
-    (idle : (T : ℕ) → T < m → IdleBefore m durations starts processors (platform .processors) (getD starts T 0) (getD through T 0))
+    {n : ℕ} (same : n ≡ platform .processors) {through back′ time : List ℕ}
+    (idle-on : (T : ℕ) → T < m → IdleBefore m durations starts processors n (getD starts T 0) (getD through T 0))
     (M : Moves m l durations from to counts costs starts processors through back′ time) where
   abbrev I : Instance
   I = instance (heldJob platform m l durations from to counts)
 
   abbrev ps : List Placement
   ps = planned I
+
+  idle : (T : ℕ) → T < m → IdleBefore m durations starts processors (platform .processors) (getD starts T 0) (getD through T 0)
+  idle T b = rw (← same) (idle-on T b)
 
   -- the move back from a task, by the walk and by the arrays
   data BackAt (T : ℕ) : Type 0 where
@@ -71,8 +80,8 @@ module _ {platform : Platform} {m l : ℕ} {durations from to counts : List ℕ}
       go (inr h) = at-short T (getD through T 0) b h (idle T b) (M .moves T b h)
 
   -- the moves go down, and none takes long
-  pub goes-down : (T : ℕ) → T < m → getD back′ T 0 < 256 → (getD back′ T 0 < T) × (getD time T 0 ≤ 800000)
-  goes-down T b h = go (back-at T b)
+  pub goes-down : {last : ℕ} → last < m → (T : ℕ) → T ≤ last → getD back′ T 0 < 256 → (getD back′ T 0 < T) × (getD time T 0 ≤ 800000)
+  goes-down k T b h = go (back-at T (omega arith))
     where
       go : BackAt T → (getD back′ T 0 < T) × (getD time T 0 ≤ 800000)
       go (stays e z) = absurd (omega arith)
@@ -92,10 +101,14 @@ module _ {platform : Platform} {m l : ℕ} {durations from to counts : List ℕ}
       go (goes w e f d t u) r =
           rw (e, walk, lt-ltb (getD back′ T 0) 256 (omega (arith, few)), t) (ap (λ (x : ℕ). messageTimeTo I ps (w .through) (w .edge) + x) (r _ (omega arith) ∙ ap (walk I ps k) f))
 
-  -- from the last task they give the cover
+  -- the walk begins with the last task
+  pub last-below : {last : ℕ} → FirstMost 0 m (λ T. getD starts T 0 + getD durations T 0) last → last < m
+  last-below {last} F = last-is A H last F .0
+
+  -- from it they give the cover
   pub cover-is : {last : ℕ} → FirstMost 0 m (λ T. getD starts T 0 + getD durations T 0) last → alongBack back′ time 256 last ≡ cover I
   unfolding cover
   cover-is {last} F =
       let z = last-is A H last F in
-      let same = held-tasks A in
-      rw (z .1, cover) (along-is 256 last (z .0) ∙ walk-enough I (given A .well) 256 (tasks I) last (omega (arith, z .0, few)) (omega (arith, z .0, same)) (omega (arith, z .0, same)))
+      let size = held-tasks A in
+      rw (z .1, cover) (along-is 256 last (z .0) ∙ walk-enough I (given A .well) 256 (tasks I) last (omega (arith, z .0, few)) (omega (arith, z .0, size)) (omega (arith, z .0, size)))
