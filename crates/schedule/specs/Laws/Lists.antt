@@ -4,7 +4,7 @@ use mathlib.Core.List.{[], _∷_, map, map-append, map-id}
 use Prim.Native.Nat.{ℕ, zero, suc, _+_, _-_, _≤_, _<_}
 use native.Mathlib.Nat.{add-zero, zero-add}
 use native.Mathlib.Omega.{arith}
-use lib.ListN.{getD}
+use lib.ListN.{getD, replicate}
 use Rattle.job.specs.Write.{values}
 use Rattle.job.specs.Laws.Values.{length-values, values-snoc}
 use Rattle.etf.specs.Lists.{_∈_, upto}
@@ -46,3 +46,9 @@ module _ {A : Type 0} (f : ℕ → A) where
 
 pub upto-values : (m : ℕ) → upto m ≡ values (λ i. i) 0 m
 upto-values m = sym (map-id (upto m)) ∙ map-upto (λ i. i) m
+
+-- what stands in each place of a list of one number
+pub same-at : (n x i : ℕ) → i < n → getD {A = ℕ} (replicate n x) i 0 ≡ x
+same-at zero x i h = absurd (omega arith)
+same-at (suc n) x zero h = refl
+same-at (suc n) x (suc i) h = same-at n x i (omega arith)

@@ -101,11 +101,7 @@ module _ {platform : Platform} {m l : ℕ} {durations from to counts : List ℕ}
       go (goes w e f d t u) r =
           rw (e, walk, lt-ltb (getD back′ T 0) 256 (omega (arith, few)), t) (ap (λ (x : ℕ). messageTimeTo I ps (w .through) (w .edge) + x) (r _ (omega arith) ∙ ap (walk I ps k) f))
 
-  -- the walk begins with the last task
-  pub last-below : {last : ℕ} → FirstMost 0 m (λ T. getD starts T 0 + getD durations T 0) last → last < m
-  last-below {last} F = last-is A H last F .0
-
-  -- from it they give the cover
+  -- from the last task they give the cover
   pub cover-is : {last : ℕ} → FirstMost 0 m (λ T. getD starts T 0 + getD durations T 0) last → alongBack back′ time 256 last ≡ cover I
   unfolding cover
   cover-is {last} F =
