@@ -8,7 +8,7 @@ use Prim.Native.Nat.{ℕ, zero, suc, _+_, _*_, _≤_, _<_, max}
 use native.Mathlib.Nat.{zero-add, add-comm}
 use native.Mathlib.Omega.{arith}
 use lib.Dec.{eqb}
-use lib.ListN.{length, getD}
+use lib.ListN.{getD}
 use Rattle.job.specs.declared.Platform.{Platform}
 use Rattle.job.specs.Number.{pick}
 use Rattle.job.specs.Job.{Edge}
@@ -24,7 +24,7 @@ use Rattle.etf.specs.Laws.Placements.{into-of}
 use Rattle.schedule.specs.Pass.{most, InArrays}
 use Rattle.schedule.specs.CoverPass.{greatestIn, chainBy, Chained}
 use Rattle.schedule.specs.Laws.Most.{most-ge, most-at, most-same, most-more}
-use Rattle.schedule.specs.Laws.Given.{given, held-processors, cost-at, cost-small}
+use Rattle.schedule.specs.Laws.Given.{given, cost-at, cost-small}
 
 -- ---- the greatest, kept place by place
 
@@ -139,17 +139,15 @@ module _ {platform : Platform} {m l : ℕ} {durations from to counts : List ℕ}
   -- a chain is at most the dearest to the task of its last edge, and the dearest chain has a last edge
   dearest-is : most l (chainBy from counts (greatestCost I) sums) ≡ dearest I
   unfolding dearest
-  dearest-is = omega (arith, most-below l by sums-top below, most-below (tasks I) sums (most l by) above, greatest-upto sums (tasks I))
+  dearest-is = omega (arith, most-below l by (most (tasks I) sums) below, most-below (tasks I) sums (most l by) above, greatest-upto sums (tasks I))
     where
       by : ℕ → ℕ
       by = chainBy from counts (greatestCost I) sums
 
-      sums-top : ℕ
-      sums-top = most (tasks I) sums
-
       above : (T : ℕ) → T < tasks I → sums T ≤ most l by
       above T h =
-          omega (arith, chained T, most-below l (λ k. pick (eqb (getD to k 0) T) (by k) 0) (most l by) (λ k b. go (eqb (getD to k 0) T) (by k) (most l by) (most-ge l by k b)))
+          let each : (k : ℕ) → k < l → pick (eqb (getD to k 0) T) (by k) 0 ≤ most l by = λ k b. go (eqb (getD to k 0) T) (by k) (most l by) (most-ge l by k b) in
+          omega (arith, chained T, most-below l (λ k. pick (eqb (getD to k 0) T) (by k) 0) (most l by) each)
         where
           go : (t : Bool) (x y : ℕ) → x ≤ y → pick t x 0 ≤ y
           go true x y h = h

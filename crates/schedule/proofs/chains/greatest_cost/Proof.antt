@@ -50,9 +50,9 @@ loop-again c =
       search needs,
       search needs,
       ⊎-elim
-      (λ w. one-place _ _ _ _ (v .2) (omega (arith, w .0 .taken, w .1, cost)))
-      (λ w. one-place _ _ _ _ (v .2) (omega (arith, w .0 .left, w .1, cost)))
-      (c .if1 .came),
+          (λ w. one-place _ _ _ _ (v .2) (omega (arith, w .0 .taken, w .1, cost)))
+          (λ w. one-place _ _ _ _ (v .2) (omega (arith, w .0 .left, w .1, cost)))
+          (c .if1 .came),
     )
 
 returns : tie.Need-returns Inv-loop μ-loop

@@ -1,8 +1,7 @@
 -- `chains::greatest_in`: before place q the greatest is that of the places below q; each turn adds one place.
-use mathlib.Core.Path.{_≡_, refl, _∙_}
+use mathlib.Core.Path.{_≡_}
 use mathlib.Core.Logic.{⊎-elim}
-use mathlib.Core.List.{List}
-use Prim.Native.Nat.{ℕ, _+_, _-_, _≤_, _<_, max}
+use Prim.Native.Nat.{_-_, _≤_}
 use native.Mathlib.Omega.{arith}
 use borrow.Author.Needs.{needs}
 use lib.ListN.{length, getD}
@@ -34,8 +33,14 @@ loop-less c = search needs
 
 loop-again : tie.Need-loop-again Inv-loop μ-loop
 loop-again c =
-    let v = c .before .before .before .loop .inv in
-    (search needs, search needs, ⊎-elim (λ w. one-place _ _ _ _ (v .2) (omega (arith, w .0 .taken, w .1))) (λ w. one-place _ _ _ _ (v .2) (omega (arith, w .0 .left, w .1))) (c .if1 .came))
+    let v = c .before .before .before .loop .inv in (
+      search needs,
+      search needs,
+      ⊎-elim
+          (λ w. one-place _ _ _ _ (v .2) (omega (arith, w .0 .taken, w .1)))
+          (λ w. one-place _ _ _ _ (v .2) (omega (arith, w .0 .left, w .1)))
+          (c .if1 .came),
+    )
 
 returns : tie.Need-returns Inv-loop μ-loop
 returns c =

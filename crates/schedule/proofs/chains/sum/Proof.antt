@@ -164,27 +164,21 @@ wide16-requires c κs = search needs
 
 mul-sum-2 : tie.Need-mul-sum-2 Inv-loop μ-loop
 mul-sum-2 c =
-    let at-loop = c .before .before .before .before .before .before .before in
+    let at-from = c .before .before .before .before in
+    let at-loop = at-from .before .before .before in
     let pre = at-loop .before .before .before .before .pre in
-    record {
-      fits = omega (
-        arith,
-        messages-fit _ _ _ _ _ (pre .0 .3) (pre .1 .0) (pre .1 .1) _ _ _ (at-loop .loop .inv .1) (search needs) _ _ (c .before .before .before .before .index .ensures .0)
-            (c .wide16 .ensures),
-      );
-    }
+    let s = at-from .index .ensures .0 in
+    let few = messages-fit _ _ _ _ _ (pre .0 .3) (pre .1 .0) (pre .1 .1) _ _ _ (at-loop .loop .inv .1) (search needs) _ _ s (c .wide16 .ensures) in
+    record { fits = omega (arith, few) }
 
 add-sum : tie.Need-add-sum Inv-loop μ-loop
 add-sum c =
-    let at-index = c .before .before .before .before in
-    let at-loop = at-index .before .before .before in
+    let at-from = c .before .before .before .before in
+    let at-loop = at-from .before .before .before in
     let pre = at-loop .before .before .before .before .pre in
-    record {
-      fits = omega (
-        arith,
-        sum-fits _ _ _ _ _ (pre .0 .3) (pre .1 .0) (pre .1 .1) _ _ _ (at-loop .loop .inv .1) (search needs) _ _ (at-index .index .ensures .0) (c .wide16 .ensures),
-      );
-    }
+    let s = at-from .index .ensures .0 in
+    let few = sum-fits _ _ _ _ _ (pre .0 .3) (pre .1 .0) (pre .1 .1) _ _ _ (at-loop .loop .inv .1) (search needs) _ _ s (c .wide16 .ensures) in
+    record { fits = omega (arith, few) }
 
 mul-if1 : tie.Need-mul-if1 Inv-loop μ-loop
 mul-if1 c = search needs
@@ -214,12 +208,12 @@ loop-again c =
     let v = at-loop .loop .inv in
     let t = at-to .index2 .ensures in
     let later = ⊎-elim
-    (λ w. stored _ _ _ _ (w .0 .taken) (w .1) (omega (arith, t .1, v .1 .size)))
-    (λ w. kept _ _ _ _ (w .0 .left) (w .1))
+    (λ w. stored _ _ _ _ (omega (arith, w .0 .taken)) (w .1) (omega (arith, t .1, v .1 .size)))
+    (λ w. kept _ _ _ _ (omega (arith, w .0 .left)) (w .1))
     (c .before .if1 .came) in (
       search needs,
-      more _ _ _ _ _ (pre .0 .3) (pre .1 .0) (pre .1 .1) _ _ _ (v .1) (search needs) _ _ (at-from .index .ensures .0) (at-wide .wide16 .ensures) _ refl _ _ _ (t .0) later
-          (⊎-elim (λ w. omega (arith, w .0 .taken, w .1)) (λ w. omega (arith, w .0 .left, w .1)) (c .if2 .came)),
+      more _ _ _ _ _ (pre .0 .3) (pre .1 .0) (pre .1 .1) _ _ _ (v .1) (search needs) _ _ (at-from .index .ensures .0) (at-wide .wide16 .ensures)
+          _ refl _ _ _ (t .0) later (⊎-elim (λ w. omega (arith, w .0 .taken, w .1)) (λ w. omega (arith, w .0 .left, w .1)) (c .if2 .came)),
     )
 
 returns : tie.Need-returns Inv-loop μ-loop
