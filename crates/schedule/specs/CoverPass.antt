@@ -8,8 +8,12 @@ use lib.Dec.{ltb, eqb}
 use lib.ListN.{length, getD}
 use Rattle.job.specs.Number.{pick}
 use Rattle.etf.specs.Instance.{Instance}
+use Rattle.etf.specs.Cover.{cover}
+use Rattle.etf.specs.Dearest.{dearest}
+use Rattle.schedule.specs.declared.Covered.{Covered}
+use Rattle.schedule.specs.declared.Covered.the-variants.{Cover}
 use Rattle.schedule.specs.Plan.{startOf, processorOf}
-use Rattle.schedule.specs.Pass.{most}
+use Rattle.schedule.specs.Pass.{most, Ran}
 
 -- r is the first of the n places whose value is the greatest; `none` where each is 0
 pub record FirstMost (none n : ℕ) (f : ℕ → ℕ) (r : ℕ) : Type 0 where
@@ -121,3 +125,9 @@ pub record HoldsPlan (I : Instance) (m : ℕ) (starts processors : List ℕ) : T
   pub has-processors : m ≤ length processors
   pub starts-are : (T : ℕ) → T < m → getD starts T 0 ≡ startOf I T
   pub processors-are : (T : ℕ) → T < m → getD processors T 0 ≡ processorOf I T
+
+-- what planning a job and measuring the plan leaves: what planning leaves, and the answer
+pub record Measured (I : Instance) (m : ℕ) (r : Covered) (starts starts′ processors processors′ arrivals arrivals′ : List ℕ) : Type 0 where
+  pub end : ℕ
+  pub ran : Ran I m end starts starts′ processors processors′ arrivals arrivals′
+  pub answer-is : r ≡ Cover (cover I) (dearest I)

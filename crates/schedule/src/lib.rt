@@ -9,15 +9,19 @@ mod number;
 mod planner;
 mod walk;
 
+use job::Platform;
 use job::Verdict;
 ghost use mathlib.Core.Path.{_≡_};
 ghost use Prim.Native.Nat.{_≤_};
 ghost use lib.ListN.{length};
+ghost use Rattle.job.specs.Write.{heldJob};
+ghost use Rattle.etf.specs.OfJob.{instance};
 ghost use Rattle.schedule.specs.Plan.{called, filled, planCall};
 ghost use Rattle.schedule.specs.Cover.{covered, coverCall};
 ghost use Rattle.schedule.specs.Check.{checkCall};
 ghost use Rattle.schedule.specs.PlanBytes.{returned, planBytesCall, checkBytesCall};
-ghost use Rattle.schedule.specs.Pass.{verdictNumber};
+ghost use Rattle.schedule.specs.Pass.{InArrays, Room, verdictNumber};
+ghost use Rattle.schedule.specs.CoverPass.{Measured};
 
 // What planning a job gives: the number of its tasks and the plan's end, or the refusal's number.
 pub enum Planned {
@@ -95,6 +99,53 @@ pub fn plan(file: &[u8], starts: &mut [u32], processors: &mut [u8], scratch: &mu
     Planned::Plan { tasks, end }
 }
 
+// Plans a job, and measures the plan. The arrivals begin with 4,096 zeros.
+fn measure<'a>(
+    platform: Platform,
+    tasks: usize,
+    edges: usize,
+    durations: &'a [u32],
+    from: &'a [u8],
+    to: &'a [u8],
+    counts: &'a [u16],
+    costs: [[u32; 16]; 16],
+    starts: &mut [u32],
+    processors: &mut [u8],
+    arrivals: &mut [u32],
+) -> Covered
+    requires { ⌜ InArrays platform tasks edges (now durations) (now from) (now to) (now counts) costs ⌝ }
+    requires { ⌜ Room tasks (now starts) (now processors) (now arrivals) ⌝ }
+    ensures { λ r. ⌜ Measured (instance (heldJob platform tasks edges (now (durations .entry)) (now (from .entry)) (now (to .entry)) (now (counts .entry)))) tasks r (now (starts .entry)) (now (starts .exit)) (now (processors .entry)) (now (processors .exit)) (now (arrivals .entry)) (now (arrivals .exit)) ⌝ }
+{
+    planner::run(
+        platform,
+        tasks,
+        edges,
+        durations,
+        from,
+        to,
+        counts,
+        costs,
+        starts,
+        processors,
+        arrivals,
+    );
+    let cover = walk::cover(
+        platform,
+        tasks,
+        edges,
+        durations,
+        from,
+        to,
+        counts,
+        costs,
+        starts,
+        processors,
+    );
+    let dearest = chains::dearest(platform, tasks, edges, durations, from, to, counts, costs);
+    Covered::Cover { cover, dearest }
+}
+
 // Plans the job of a file, and measures the plan (01: the cover call).
 pub fn cover(file: &[u8], starts: &mut [u32], processors: &mut [u8], scratch: &mut [u32]) -> Covered
     ensures { λ r. ⌜ covered r (now (starts .exit)) (now (processors .exit)) (now (scratch .exit)) ≡ coverCall (now (file .entry)) (now (starts .entry)) (now (processors .entry)) (now (scratch .entry)) ⌝ }
@@ -115,7 +166,7 @@ pub fn cover(file: &[u8], starts: &mut [u32], processors: &mut [u8], scratch: &m
     }
     clear(scratch);
     let costs = costs::square(r.platform);
-    planner::run(
+    measure(
         r.platform,
         tasks,
         edges,
@@ -127,30 +178,7 @@ pub fn cover(file: &[u8], starts: &mut [u32], processors: &mut [u8], scratch: &m
         starts,
         processors,
         scratch,
-    );
-    let cover = walk::cover(
-        r.platform,
-        tasks,
-        edges,
-        &r.durations,
-        &r.from,
-        &r.to,
-        &r.counts,
-        costs,
-        starts,
-        processors,
-    );
-    let dearest = chains::dearest(
-        r.platform,
-        tasks,
-        edges,
-        &r.durations,
-        &r.from,
-        &r.to,
-        &r.counts,
-        costs,
-    );
-    Covered::Cover { cover, dearest }
+    )
 }
 
 // Judges a plan for the job of a file (01: the checker).

@@ -15,18 +15,17 @@ use Rattle.etf.specs.Instance.{Instance, tasks}
 use Rattle.etf.specs.Schedule.{scheduleOf}
 use Rattle.etf.specs.Checker.{Because, no-processor, too-late, overlaps, too-early}
 use Rattle.etf.specs.Verdict.{number-only}
-use Rattle.etf.specs.Cover.{cover}
-use Rattle.etf.specs.Dearest.{dearest}
 use Rattle.etf.specs.OfJob.{instance}
 use Rattle.schedule.specs.declared.Planned.the-variants.{Plan, Refused as NotPlanned}
-use Rattle.schedule.specs.declared.Covered.the-variants.{Cover, Refused as NotCovered}
+use Rattle.schedule.specs.declared.Covered.{Covered}
+use Rattle.schedule.specs.declared.Covered.the-variants.{Refused as NotCovered}
 use Rattle.schedule.specs.declared.Checked.the-variants.{Yes, Refused as NotChecked}
 use Rattle.schedule.specs.Plan.{called, filled, startOf, processorOf, scratchAt, planAccepted, planFor, planCall}
 use Rattle.schedule.specs.Cover.{covered, coverAccepted, coverFor, coverCall}
 use Rattle.schedule.specs.Check.{checkOf, checkedAs, checkFor, checkCall}
 use Rattle.schedule.specs.PlanBytes.{returned, planBytes, processorIn, startIn, planBytesFor, planBytesCall, numberOf, checkBytesFor, checkBytesCall}
 use Rattle.schedule.specs.Pass.{Room, Ran, verdictNumber}
-use Rattle.schedule.specs.CoverPass.{HoldsPlan}
+use Rattle.schedule.specs.CoverPass.{Measured}
 use Rattle.schedule.specs.Laws.Filled.{filled-length, filled-at, filled-filled}
 use Rattle.schedule.specs.Laws.Encoded.{plan-bytes-same, check-of-same}
 use Rattle.schedule.specs.Laws.Reading.{refused-is, Read}
@@ -137,16 +136,6 @@ module _ {file : List ℕ} {x : Reading} {m l : ℕ} (K : Read file x m l) where
       (simp (tasks-is, le-ltb _ _ a, le-ltb _ _ b, le-ltb _ _ c)
       (rw (R .end-is, R .starts-are, R .processors-are, R .arrivals-are, f, filled-filled (scratchAt H) (λ x. 0) 4096 scratch c, same)))
 
-  -- where the planner ran, the slices hold its schedule
-  pub holds-plan : {starts processors scratch : List ℕ} {r : ℕ} {starts′ processors′ scratch′ : List ℕ} → m ≤ length starts → m ≤ length processors
-      → Ran H m r starts starts′ processors processors′ scratch scratch′ → HoldsPlan H m starts′ processors′
-  holds-plan {starts} {processors} a b R = record {
-    has-starts = rw (R .starts-are) (omega (arith, a, filled-length (startOf H) m starts a));
-    has-processors = rw (R .processors-are) (omega (arith, b, filled-length (processorOf H) m processors b));
-    starts-are = λ T h. rw (R .starts-are) (filled-at (startOf H) m starts T h);
-    processors-are = λ T h. rw (R .processors-are) (filled-at (processorOf H) m processors T h);
-  }
-
   module _ {starts processors scratch : List ℕ} where
     pub cover-no-starts : length starts < m → covered (NotCovered 9) starts processors scratch ≡ coverCall file starts processors scratch
     unfolding coverCall coverFor
@@ -161,14 +150,15 @@ module _ {file : List ℕ} {x : Reading} {m l : ℕ} (K : Read file x m l) where
     unfolding coverCall coverFor
     cover-no-scratch a b h = rw (K .says) (simp (tasks-is, le-ltb _ _ a, le-ltb _ _ b, lt-ltb _ _ h))
 
-  pub cover-done : {starts processors : List ℕ} (scratch : List ℕ) {r C D : ℕ} {starts′ processors′ cleared scratch′ : List ℕ} → m ≤ length starts → m ≤ length processors → 4096 ≤ length scratch
-      → cleared ≡ filled (λ x. 0) 4096 scratch → Ran H m r starts starts′ processors processors′ cleared scratch′ → C ≡ cover H → D ≡ dearest H
-      → covered (Cover C D) starts′ processors′ scratch′ ≡ coverCall file starts processors scratch
+  pub cover-done : {starts processors : List ℕ} (scratch : List ℕ) {r : Covered} {starts′ processors′ cleared scratch′ : List ℕ} → m ≤ length starts → m ≤ length processors → 4096 ≤ length scratch
+      → cleared ≡ filled (λ x. 0) 4096 scratch → Measured H m r starts starts′ processors processors′ cleared scratch′
+      → covered r starts′ processors′ scratch′ ≡ coverCall file starts processors scratch
   unfolding coverCall coverFor coverAccepted
-  cover-done scratch a b c f R e d =
+  cover-done scratch a b c f M =
+      let R = M .ran in
       rw (K .says)
       (simp (tasks-is, le-ltb _ _ a, le-ltb _ _ b, le-ltb _ _ c)
-      (rw (e, d, R .starts-are, R .processors-are, R .arrivals-are, f, filled-filled (scratchAt H) (λ x. 0) 4096 scratch c, same)))
+      (rw (M .answer-is, R .starts-are, R .processors-are, R .arrivals-are, f, filled-filled (scratchAt H) (λ x. 0) 4096 scratch c, same)))
 
   module _ (starts processors : List ℕ) where
     pub check-no-starts : length starts < m → NotChecked 9 ≡ checkCall file starts processors

@@ -16,11 +16,23 @@ use Rattle.etf.specs.Cover.{Back, back, walk, cover}
 use Rattle.etf.specs.OfJob.{instance}
 use Rattle.etf.specs.Laws.Tests.{le-or-lt}
 use Rattle.etf.specs.Laws.Back.{walk-enough}
-use Rattle.schedule.specs.Pass.{most, InArrays}
+use Rattle.schedule.specs.Plan.{startOf, processorOf}
+use Rattle.schedule.specs.Pass.{most, InArrays, Room, Ran}
 use Rattle.schedule.specs.CoverPass.{FirstMost, Scheduled, IdleBefore, reachInto, MovesBack, Moves, alongBack, HoldsPlan}
 use Rattle.schedule.specs.Laws.Given.{given, held-tasks}
+use Rattle.schedule.specs.Laws.Filled.{filled-at, filled-length}
 use Rattle.schedule.specs.Laws.Short.{scheduled, no-short, latest-short}
 use Rattle.schedule.specs.Laws.Moved.{stops-there, goes-along, last-is}
+
+-- where the planner ran, the slices hold its schedule
+pub holds-plan : {I : Instance} {m r : ℕ} {starts starts′ processors processors′ arrivals arrivals′ : List ℕ} → Room m starts processors arrivals
+    → Ran I m r starts starts′ processors processors′ arrivals arrivals′ → HoldsPlan I m starts′ processors′
+holds-plan {I} {m} {r} {starts} {starts′} {processors} O R = record {
+  has-starts = rw (R .starts-are) (omega (arith, O .for-starts, filled-length (startOf I) m starts (O .for-starts)));
+  has-processors = rw (R .processors-are) (omega (arith, O .for-processors, filled-length (processorOf I) m processors (O .for-processors)));
+  starts-are = λ T h. rw (R .starts-are) (filled-at (startOf I) m starts T h);
+  processors-are = λ T h. rw (R .processors-are) (filled-at (processorOf I) m processors T h);
+}
 
 module _ {platform : Platform} {m l : ℕ} {durations from to counts : List ℕ} {costs : List (List ℕ)} (A : InArrays platform m l durations from to counts costs)
     {starts processors : List ℕ} (H : HoldsPlan (instance (heldJob platform m l durations from to counts)) m starts processors) {n : ℕ} (e : n ≡ platform .processors) where
