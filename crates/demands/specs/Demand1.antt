@@ -1,0 +1,128 @@
+-- Demand 1 of the notice: every input is answered, by an acceptance or a number of document 01.
+-- Each entry is proved to end and to answer what its definition says; these are theorems about the definitions.
+use mathlib.Core.Logic.{_⊎_, _↔_}
+use mathlib.Core.Path.{_≡_}
+use mathlib.Core.List.{List}
+use Prim.Native.Nat.{ℕ, suc, _*_, _≤_, _<_}
+use lib.ListN.{length, getD, drop}
+use Rattle.job.specs.declared.Platform.{Platform}
+use Rattle.job.specs.declared.Verdict.the-variants.{Counts, Refused as NotRead}
+use Rattle.job.specs.declared.Written.the-variants.{Length, Refused as NotWritten}
+use Rattle.job.specs.Job.{Job}
+use Rattle.job.specs.Record.{kindOf}
+use Rattle.job.specs.Read.{accepted, refused, readJob, readingOf}
+use Rattle.job.specs.Cause.{Cause, Reached}
+use Rattle.job.specs.Write.{fileOf, fileLength, heldJob, Held, writeAnswer, writeOut}
+use Rattle.etf.specs.Instance.{tasks}
+use Rattle.etf.specs.Schedule.{scheduleOf}
+use Rattle.etf.specs.Checker.{Because}
+use Rattle.etf.specs.OfJob.{instance}
+use Rattle.schedule.specs.declared.Planned.the-variants.{Plan, Refused as NotPlanned}
+use Rattle.schedule.specs.declared.Covered.the-variants.{Cover, Refused as NotCovered}
+use Rattle.schedule.specs.declared.Checked.the-variants.{Yes, Refused as NotChecked}
+use Rattle.schedule.specs.Plan.{called, planCall}
+use Rattle.schedule.specs.Cover.{covered, coverCall}
+use Rattle.schedule.specs.Check.{checkCall}
+use Rattle.schedule.specs.PlanBytes.{returned, processorIn, startIn, planBytesCall, checkBytesCall}
+
+-- ---- 00: "The answer to every job file .. is an acceptance or one of the refusal numbers of document 01, whatever the bytes."
+
+module _ (file : List ℕ) where
+  -- the reader accepts, or refuses by 1 to 8
+  pub reader-answers : ((m l : ℕ) × (readingOf (readJob file) .verdict ≡ Counts m l))
+      ⊎ ((k : ℕ) × (readingOf (readJob file) .verdict ≡ NotRead k) × (1 ≤ k) × (k ≤ 8))
+  reader-answers = ?
+
+  -- by a number only with its condition: at a place that it comes to past records without trouble the file ends (1), or a record has the number's cause
+  pub reader-refuses : (k : ℕ) → readingOf (readJob file) .verdict ≡ NotRead k →
+      (at : ℕ) × (j : Job) × Reached file at j
+      × (((length file ≤ at) × (k ≡ 1)) ⊎ ((at < length file) × Cause (drop (suc at) file) j (kindOf (getD file at 0)) k))
+  reader-refuses = ?
+
+  module _ (starts processors scratch : List ℕ) where
+    -- the planner accepts, or refuses by 1 to 9
+    pub planner-answers : ((m e : ℕ) × (planCall file starts processors scratch .answer ≡ Plan m e))
+        ⊎ ((k : ℕ) × (planCall file starts processors scratch .answer ≡ NotPlanned k) × (1 ≤ k) × (k ≤ 9))
+    planner-answers = ?
+
+    -- by the reader's number for the file, or by 9 for a slice that is too short for an accepted job, and then only
+    pub planner-refuses : (k : ℕ) → planCall file starts processors scratch .answer ≡ NotPlanned k
+        ↔ ((readJob file ≡ refused k)
+        ⊎ ((k ≡ 9) × (j : Job) × (readJob file ≡ accepted j)
+        × ((length starts < tasks (instance j)) ⊎ ((length processors < tasks (instance j)) ⊎ (length scratch < 4096)))))
+    planner-refuses = ?
+
+    -- the cover call accepts, or refuses by 1 to 9
+    pub cover-answers : ((C D : ℕ) × (coverCall file starts processors scratch .answer ≡ Cover C D))
+        ⊎ ((k : ℕ) × (coverCall file starts processors scratch .answer ≡ NotCovered k) × (1 ≤ k) × (k ≤ 9))
+    cover-answers = ?
+
+    -- where the planner does, and then only (01: "it refuses as the planner does")
+    pub cover-refuses : (k : ℕ) → coverCall file starts processors scratch .answer ≡ NotCovered k ↔ planCall file starts processors scratch .answer ≡ NotPlanned k
+    cover-refuses = ?
+
+  -- the planner from C returns 0, or 1 to 9
+  pub planner-returns : (plan : List ℕ) → planBytesCall file plan .number ≤ 9
+  planner-returns = ?
+
+  -- the reader's number for the file, or 9 for a plan too short for an accepted job, and then only
+  pub planner-returns-number : (plan : List ℕ) (k : ℕ) → 1 ≤ k → planBytesCall file plan .number ≡ k
+      ↔ ((readJob file ≡ refused k) ⊎ ((k ≡ 9) × (j : Job) × (readJob file ≡ accepted j) × (length plan < 5 * tasks (instance j))))
+  planner-returns-number = ?
+
+-- ---- 00: ".. and to every plan handed in for checking ..": the checker accepts, or refuses by 1 to 13, each only with its condition
+
+  module _ (starts processors : List ℕ) where
+    pub checker-answers : (checkCall file starts processors ≡ Yes) ⊎ ((k : ℕ) × (checkCall file starts processors ≡ NotChecked k) × (1 ≤ k) × (k ≤ 13))
+    checker-answers = ?
+
+    -- the reader's number for the file, 9 for a slice too short for an accepted job, or 10 to 13 for a plan that breaks the rule of that number
+    pub checker-refuses : (k : ℕ) → checkCall file starts processors ≡ NotChecked k →
+        (readJob file ≡ refused k)
+        ⊎ ((j : Job) × (readJob file ≡ accepted j)
+        × (((k ≡ 9) × ((length starts < tasks (instance j)) ⊎ (length processors < tasks (instance j))))
+        ⊎ Because (instance j) (scheduleOf (instance j) (λ T. getD processors T 0) (λ T. getD starts T 0)) k))
+    checker-refuses = ?
+
+  -- the checker from C
+  pub checker-returns : (plan : List ℕ) → checkBytesCall file plan ≤ 13
+  checker-returns = ?
+
+  pub checker-returns-number : (plan : List ℕ) (k : ℕ) → 1 ≤ k → checkBytesCall file plan ≡ k →
+      (readJob file ≡ refused k)
+      ⊎ ((j : Job) × (readJob file ≡ accepted j)
+      × (((k ≡ 9) × (length plan < 5 * tasks (instance j))) ⊎ Because (instance j) (scheduleOf (instance j) (processorIn plan) (startIn plan)) k))
+  checker-returns-number = ?
+
+-- ---- the writer, for a job held as numbers: it writes, or refuses by 3 to 7 or 9
+
+module _ (p : Platform) (m l : ℕ) (durations from to counts out : List ℕ) (h : Held durations to counts) where
+  abbrev held : Job
+  held = heldJob p m l durations from to counts
+
+  pub writer-answers : (writeAnswer m l held out ≡ Length (fileLength m l))
+      ⊎ ((k : ℕ) × (writeAnswer m l held out ≡ NotWritten k) × (((3 ≤ k) × (k ≤ 7)) ⊎ (k ≡ 9)))
+  writer-answers = ?
+
+  -- 5 for a count too large, the reader's number for the job's file, or 9 for too little room, each only with its condition
+  pub writer-refuses : (k : ℕ) → writeAnswer m l held out ≡ NotWritten k →
+      ((k ≡ 5) × ((256 < m) ⊎ (1024 < l))) ⊎ ((readJob (fileOf held) ≡ refused k) ⊎ ((k ≡ 9) × (length out < fileLength m l)))
+  writer-refuses = ?
+
+-- ---- 00: "It comes for each input, and a refused call leaves each lent buffer unaltered."
+
+  -- the writer's output
+  pub writer-leaves : (k : ℕ) → writeAnswer m l held out ≡ NotWritten k → writeOut (writeAnswer m l held out) held out ≡ out
+  writer-leaves = ?
+
+module _ (file starts processors scratch : List ℕ) (k : ℕ) where
+  -- the planner's three slices, and the cover call's
+  pub planner-leaves : planCall file starts processors scratch .answer ≡ NotPlanned k → planCall file starts processors scratch ≡ called (NotPlanned k) starts processors scratch
+  planner-leaves = ?
+
+  pub cover-leaves : coverCall file starts processors scratch .answer ≡ NotCovered k → coverCall file starts processors scratch ≡ covered (NotCovered k) starts processors scratch
+  cover-leaves = ?
+
+-- the plan that C lends to the planner; the checker is lent nothing that it could alter
+pub planner-leaves-bytes : (file plan : List ℕ) (k : ℕ) → 1 ≤ k → planBytesCall file plan .number ≡ k → planBytesCall file plan ≡ returned k plan
+planner-leaves-bytes = ?

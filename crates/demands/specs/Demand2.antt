@@ -1,0 +1,96 @@
+-- Demand 2 of the notice: the plan is the planning rule's, C the walk's, the checker accepts exactly the plans that keep the rules, and nothing is lost in a file.
+use mathlib.Core.Logic.{_↔_}
+use mathlib.Core.Path.{_≡_}
+use mathlib.Core.List.{List, _++_}
+use Prim.Native.Nat.{ℕ, _*_, _≤_, _<_}
+use lib.ListN.{length, getD, take, drop}
+use Rattle.job.specs.declared.Platform.{Platform}
+use Rattle.job.specs.declared.Written.the-variants.{Length}
+use Rattle.job.specs.Job.{Edge, Job}
+use Rattle.job.specs.Read.{accepted, readJob, readingOf}
+use Rattle.job.specs.Write.{heldJob, Held, writeAnswer, writeOut}
+use Rattle.job.specs.Laws.Number.{Bytes}
+use Rattle.etf.specs.Instance.{tasks}
+use Rattle.etf.specs.Schedule.{placementOf, scheduleOf, end}
+use Rattle.etf.specs.Rule.{planned}
+use Rattle.etf.specs.Cover.{cover}
+use Rattle.etf.specs.Dearest.{Chain, price, dearest}
+use Rattle.etf.specs.Checker.{Keeps}
+use Rattle.etf.specs.Walks.{CoverWalk}
+use Rattle.etf.specs.OfJob.{instance}
+use Rattle.schedule.specs.declared.Planned.the-variants.{Plan}
+use Rattle.schedule.specs.declared.Covered.the-variants.{Cover}
+use Rattle.schedule.specs.declared.Checked.the-variants.{Yes}
+use Rattle.schedule.specs.Plan.{planCall}
+use Rattle.schedule.specs.Cover.{coverCall}
+use Rattle.schedule.specs.Check.{checkCall}
+use Rattle.schedule.specs.PlanBytes.{processorIn, startIn, planBytesCall, checkBytesCall}
+
+-- ---- 00: "The plan is the one that Algorithm ETF of Hwang, Chow, Anger and Lee gives with document 01's tie rule .."
+
+-- the number of tasks, the end, and the start and the processor of each task, as the planner's call leaves them
+pub plan-is-etf : (file starts processors scratch : List ℕ) (m E : ℕ) → planCall file starts processors scratch .answer ≡ Plan m E →
+    (j : Job) × (readJob file ≡ accepted j) × (m ≡ tasks (instance j)) × (E ≡ end (instance j) (planned (instance j)))
+    × ((T : ℕ) → T < m → (getD (planCall file starts processors scratch .starts) T 0 ≡ placementOf (planned (instance j)) T .start)
+    × (getD (planCall file starts processors scratch .processors) T 0 ≡ placementOf (planned (instance j)) T .processor))
+plan-is-etf = ?
+
+-- and as the call from C leaves them in the plan's bytes
+pub bytes-are-etf : (file plan : List ℕ) → planBytesCall file plan .number ≡ 0 →
+    (j : Job) × (readJob file ≡ accepted j)
+    × ((T : ℕ) → T < tasks (instance j) → (startIn (planBytesCall file plan .plan) T ≡ placementOf (planned (instance j)) T .start)
+    × (processorIn (planBytesCall file plan .plan) T ≡ placementOf (planned (instance j)) T .processor))
+bytes-are-etf = ?
+
+-- ---- 00: ".. and the cover C is the one found by document 01's walk."
+
+-- the walk begins with the last task and adds up to C; D is the dearest chain: no chain of the job's edges is dearer, and one is as dear
+pub cover-is-walk : (file starts processors scratch : List ℕ) (C D : ℕ) → coverCall file starts processors scratch .answer ≡ Cover C D →
+    (j : Job) × (readJob file ≡ accepted j) × (C ≡ cover (instance j)) × CoverWalk (instance j)
+    × (D ≡ dearest (instance j)) × ((es : List Edge) → Chain (instance j) es → price (instance j) es ≤ D) × ((es : List Edge) × Chain (instance j) es × (price (instance j) es ≡ D))
+cover-is-walk = ?
+
+-- the plan that it measures is the planner's: the slices hold what the planner leaves
+pub cover-leaves-plan : (file starts processors scratch : List ℕ)
+    → (coverCall file starts processors scratch .starts ≡ planCall file starts processors scratch .starts)
+    × (coverCall file starts processors scratch .processors ≡ planCall file starts processors scratch .processors)
+    × (coverCall file starts processors scratch .scratch ≡ planCall file starts processors scratch .scratch)
+cover-leaves-plan = ?
+
+-- ---- 00: "A plan brought in by anybody for an accepted job is accepted if it keeps the rules of the graph, the boards and the links and starts
+-- nothing after tick 600,000,000, and refused if it breaks one."
+
+module _ (file : List ℕ) (j : Job) (e : readJob file ≡ accepted j) where
+  pub checker-exactly : (starts processors : List ℕ) → tasks (instance j) ≤ length starts → tasks (instance j) ≤ length processors
+      → checkCall file starts processors ≡ Yes ↔ Keeps (instance j) (scheduleOf (instance j) (λ T. getD processors T 0) (λ T. getD starts T 0))
+  checker-exactly = ?
+
+  -- from C, by the plan's bytes
+  pub checker-exactly-bytes : (plan : List ℕ) → 5 * tasks (instance j) ≤ length plan
+      → checkBytesCall file plan ≡ 0 ↔ Keeps (instance j) (scheduleOf (instance j) (processorIn plan) (startIn plan))
+  checker-exactly-bytes = ?
+
+-- so it accepts the planner's own plan, whatever the slices or the bytes held before
+pub own-plan-accepted : (file starts processors scratch : List ℕ) (m E : ℕ) → planCall file starts processors scratch .answer ≡ Plan m E
+    → checkCall file (planCall file starts processors scratch .starts) (planCall file starts processors scratch .processors) ≡ Yes
+own-plan-accepted = ?
+
+pub own-bytes-accepted : (file plan : List ℕ) → planBytesCall file plan .number ≡ 0 → checkBytesCall file (planBytesCall file plan .plan) ≡ 0
+own-bytes-accepted = ?
+
+-- ---- 00: "A job that the writer takes, written out and read, is the same job .."
+
+pub written-and-read : (p : Platform) (m l : ℕ) (durations from to counts out : List ℕ) → Held durations to counts → (n : ℕ)
+    → writeAnswer m l (heldJob p m l durations from to counts) out ≡ Length n
+    → readJob (take n (writeOut (Length n) (heldJob p m l durations from to counts) out)) ≡ accepted (heldJob p m l durations from to counts)
+written-and-read = ?
+
+-- ---- 00: ".. and an accepted file written out is the same bytes."
+
+-- what the reader returns holds the job, the writer takes it where there is room, and what it writes is the file
+pub read-and-written : (file : List ℕ) (j : Job) (out : List ℕ) → Bytes file → readJob file ≡ accepted j → length file ≤ length out →
+    (heldJob (j .platform) (length (j .tasks)) (length (j .edges)) (readingOf (readJob file) .durations) (readingOf (readJob file) .from)
+    (readingOf (readJob file) .to) (readingOf (readJob file) .counts) ≡ j)
+    × (writeAnswer (length (j .tasks)) (length (j .edges)) j out ≡ Length (length file))
+    × (writeOut (Length (length file)) j out ≡ file ++ drop (length file) out)
+read-and-written = ?

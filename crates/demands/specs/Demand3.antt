@@ -1,0 +1,51 @@
+-- Demand 3 of the notice: how far from the best the planner's plan can be, by the numbers that the two calls return.
+use mathlib.Core.Path.{_≡_, ap, _∙_}
+use mathlib.Core.List.{List}
+use Prim.Native.Nat.{ℕ, _+_, _*_, _-_, _≤_}
+use Rattle.job.specs.Job.{Job}
+use Rattle.job.specs.Read.{accepted, readJob}
+use Rattle.job.specs.Accepted.{accepted-job}
+use Rattle.etf.specs.Schedule.{end}
+use Rattle.etf.specs.Rule.{planned}
+use Rattle.etf.specs.Cover.{cover}
+use Rattle.etf.specs.Dearest.{dearest}
+use Rattle.etf.specs.Ideal.{Ideal, makespan}
+use Rattle.etf.specs.OfJob.{instance}
+use Rattle.etf.specs.Jobs.{well-formed}
+use Rattle.etf.specs.WorstCase.{within, some-ideal}
+use Rattle.schedule.specs.declared.Planned.the-variants.{Plan}
+use Rattle.schedule.specs.declared.Covered.the-variants.{Cover}
+use Rattle.schedule.specs.Plan.{planCall}
+use Rattle.schedule.specs.Cover.{coverCall}
+use Rattle.demands.specs.Laws.Calls.{planned-as, covered-as, one-job}
+
+-- 00: "Whatever job is accepted, and whatever plan a rival makes for it on the same n boards: if our plan ends at E, as the planner reports, and his
+-- greatest finish is F, then n times E is at most (2n - 1) times F plus n times C, where C is the cover of our plan, as the cover call reports it; and C
+-- is at most the dearest chain of messages in the job, reported beside it."
+pub worst-case : (file : List ℕ) (m E C D : ℕ)
+    -- the planner's call on the file reports E, with any slices
+    → (starts processors scratch : List ℕ) → planCall file starts processors scratch .answer ≡ Plan m E
+    -- the cover call on it reports C and D, with any slices
+    → (starts₂ processors₂ scratch₂ : List ℕ) → coverCall file starts₂ processors₂ scratch₂ .answer ≡ Cover C D
+    -- the file is that of a job
+    → (j : Job) × (readJob file ≡ accepted j)
+    -- for which every ideal schedule (01: a rival plan), whose messages take no time and whose starts are any numbers, keeps the bound
+    × ((R : Ideal (instance j)) → j .platform .processors * E ≤ (2 * j .platform .processors - 1) * makespan (instance j) R + j .platform .processors * C)
+    -- and there is such a schedule
+    × Ideal (instance j)
+    × (C ≤ D)
+unfolding instance
+worst-case file m E C D starts processors scratch p starts₂ processors₂ scratch₂ c =
+    let P = planned-as file starts processors scratch m E p in
+    let Q = covered-as file starts₂ processors₂ scratch₂ C D c in
+    let same = one-job (Q .says) (P .says) in
+    let b = bounds (P .job) (P .says) (P .end-is) (Q .cover-is ∙ ap (λ (i : Job). cover (instance i)) same) (Q .dearest-is ∙ ap (λ (i : Job). dearest (instance i)) same) in
+    (P .job, P .says, b .0, b .1, b .2)
+  where
+    bounds : (j : Job) → readJob file ≡ accepted j → E ≡ end (instance j) (planned (instance j)) → C ≡ cover (instance j) → D ≡ dearest (instance j)
+        → ((R : Ideal (instance j)) → j .platform .processors * E ≤ (2 * j .platform .processors - 1) * makespan (instance j) R + j .platform .processors * C)
+        × Ideal (instance j) × (C ≤ D)
+    bounds j a e c d =
+        let W = well-formed j (accepted-job file j a) in
+        let ideal = some-ideal (instance j) W .0 in
+        ((λ R. rw (e, c) (within (instance j) W R .end-within)), ideal, rw (c, d) (within (instance j) W ideal .cover-within))
