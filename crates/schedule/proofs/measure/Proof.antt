@@ -1,6 +1,7 @@
 -- `measure` leaves what `planner::run` leaves; the slices then hold the planner's schedule, which `walk::cover` takes.
+use native.Mathlib.Omega.{arith}
 use borrow.Author.Needs.{needs}
-use Rattle.schedule.specs.Laws.Walked.{holds-plan}
+use Rattle.schedule.specs.Laws.Walked.{answers, holds-plan}
 use Rattle.schedule.proofs.measure.Statement.{statement}
 use Rattle.schedule.proofs.measure.Tie as tie
 
@@ -29,7 +30,7 @@ returns : tie.Need-returns
 returns c =
     let at-cover = c .before in
     let at-run = at-cover .before .before .before .before .before .before .before .before .before in
-    record { end = _; ran = at-run .run .ensures; answer-is = rw (at-cover .cover .ensures, c .dearest .ensures) }
+    record { end = _; ran = at-run .run .ensures; answer-is = answers (omega (arith, at-cover .cover .ensures)) (omega (arith, c .dearest .ensures)) }
 
 pub measure-spec : {M : Type 1} → statement M
 measure-spec =

@@ -16,6 +16,7 @@ use Rattle.etf.specs.Cover.{Back, back, walk, cover}
 use Rattle.etf.specs.OfJob.{instance}
 use Rattle.etf.specs.Laws.Tests.{le-or-lt}
 use Rattle.etf.specs.Laws.Back.{walk-enough}
+use Rattle.schedule.specs.declared.Covered.the-variants.{Cover}
 use Rattle.schedule.specs.Plan.{startOf, processorOf}
 use Rattle.schedule.specs.Pass.{most, InArrays, Room, Ran}
 use Rattle.schedule.specs.CoverPass.{FirstMost, Scheduled, IdleBefore, reachInto, MovesBack, Moves, alongBack, HoldsPlan}
@@ -23,6 +24,10 @@ use Rattle.schedule.specs.Laws.Given.{given, held-tasks}
 use Rattle.schedule.specs.Laws.Filled.{filled-at, filled-length}
 use Rattle.schedule.specs.Laws.Short.{scheduled, no-short, latest-short}
 use Rattle.schedule.specs.Laws.Moved.{stops-there, goes-along, last-is}
+
+-- an answer of two numbers
+pub answers : {C D x y : ℕ} → C ≡ x → D ≡ y → Cover C D ≡ Cover x y
+answers a b = rw (a, b)
 
 -- where the planner ran, the slices hold its schedule
 pub holds-plan : {I : Instance} {m r : ℕ} {starts starts′ processors processors′ arrivals arrivals′ : List ℕ} → Room m starts processors arrivals
