@@ -9,6 +9,7 @@ use Rattle.job.specs.declared.Written.the-variants.{Length}
 use Rattle.job.specs.Job.{Edge, Job}
 use Rattle.job.specs.Read.{accepted, readJob, readingOf}
 use Rattle.job.specs.Write.{heldJob, Held, writeAnswer, writeOut}
+use Rattle.job.specs.RoundTrip.{written-read, read-held, read-written}
 use Rattle.job.specs.Laws.Number.{Bytes}
 use Rattle.etf.specs.Instance.{tasks}
 use Rattle.etf.specs.Schedule.{placementOf, scheduleOf, end}
@@ -25,6 +26,9 @@ use Rattle.schedule.specs.Plan.{planCall}
 use Rattle.schedule.specs.Cover.{coverCall}
 use Rattle.schedule.specs.Check.{checkCall}
 use Rattle.schedule.specs.PlanBytes.{processorIn, startIn, planBytesCall, checkBytesCall}
+use Rattle.schedule.specs.OwnPlan.{slices-accepted, bytes-accepted}
+use Rattle.demands.specs.Laws.Calls.{planned-as, covered-as}
+use Rattle.demands.specs.Laws.Kept.{slices-hold, same-slices, measured, bytes-as, yes-keeps, zero-keeps}
 
 -- ---- 00: "The plan is the one that Algorithm ETF of Hwang, Chow, Anger and Lee gives with document 01's tie rule .."
 
@@ -33,14 +37,18 @@ pub plan-is-etf : (file starts processors scratch : List ℕ) (m E : ℕ) → pl
     (j : Job) × (readJob file ≡ accepted j) × (m ≡ tasks (instance j)) × (E ≡ end (instance j) (planned (instance j)))
     × ((T : ℕ) → T < m → (getD (planCall file starts processors scratch .starts) T 0 ≡ placementOf (planned (instance j)) T .start)
     × (getD (planCall file starts processors scratch .processors) T 0 ≡ placementOf (planned (instance j)) T .processor))
-plan-is-etf = ?
+plan-is-etf file starts processors scratch m E h =
+    let P = planned-as file starts processors scratch m E h in
+    (P .job, P .says, P .tasks-are, P .end-is, slices-hold P)
 
 -- and as the call from C leaves them in the plan's bytes
 pub bytes-are-etf : (file plan : List ℕ) → planBytesCall file plan .number ≡ 0 →
     (j : Job) × (readJob file ≡ accepted j)
     × ((T : ℕ) → T < tasks (instance j) → (startIn (planBytesCall file plan .plan) T ≡ placementOf (planned (instance j)) T .start)
     × (processorIn (planBytesCall file plan .plan) T ≡ placementOf (planned (instance j)) T .processor))
-bytes-are-etf = ?
+bytes-are-etf file plan h =
+    let P = bytes-as file plan h in
+    (P .job, P .says, λ T b. (P .starts-hold T b, P .processors-hold T b))
 
 -- ---- 00: ".. and the cover C is the one found by document 01's walk."
 
@@ -48,14 +56,17 @@ bytes-are-etf = ?
 pub cover-is-walk : (file starts processors scratch : List ℕ) (C D : ℕ) → coverCall file starts processors scratch .answer ≡ Cover C D →
     (j : Job) × (readJob file ≡ accepted j) × (C ≡ cover (instance j)) × CoverWalk (instance j)
     × (D ≡ dearest (instance j)) × ((es : List Edge) → Chain (instance j) es → price (instance j) es ≤ D) × ((es : List Edge) × Chain (instance j) es × (price (instance j) es ≡ D))
-cover-is-walk = ?
+cover-is-walk file starts processors scratch C D h =
+    let Q = covered-as file starts processors scratch C D h in let M = measured Q in
+    (Q .job, Q .says, Q .cover-is, M .walk-is, Q .dearest-is, M .no-chain-dearer, M .a-chain-as-dear)
 
 -- the plan that it measures is the planner's: the slices hold what the planner leaves
 pub cover-leaves-plan : (file starts processors scratch : List ℕ)
     → (coverCall file starts processors scratch .starts ≡ planCall file starts processors scratch .starts)
     × (coverCall file starts processors scratch .processors ≡ planCall file starts processors scratch .processors)
     × (coverCall file starts processors scratch .scratch ≡ planCall file starts processors scratch .scratch)
-cover-leaves-plan = ?
+unfolding coverCall planCall
+cover-leaves-plan file starts processors scratch = same-slices (readJob file) starts processors scratch
 
 -- ---- 00: "A plan brought in by anybody for an accepted job is accepted if it keeps the rules of the graph, the boards and the links and starts
 -- nothing after tick 600,000,000, and refused if it breaks one."
@@ -63,27 +74,27 @@ cover-leaves-plan = ?
 module _ (file : List ℕ) (j : Job) (e : readJob file ≡ accepted j) where
   pub checker-exactly : (starts processors : List ℕ) → tasks (instance j) ≤ length starts → tasks (instance j) ≤ length processors
       → checkCall file starts processors ≡ Yes ↔ Keeps (instance j) (scheduleOf (instance j) (λ T. getD processors T 0) (λ T. getD starts T 0))
-  checker-exactly = ?
+  checker-exactly = yes-keeps file j e
 
   -- from C, by the plan's bytes
   pub checker-exactly-bytes : (plan : List ℕ) → 5 * tasks (instance j) ≤ length plan
       → checkBytesCall file plan ≡ 0 ↔ Keeps (instance j) (scheduleOf (instance j) (processorIn plan) (startIn plan))
-  checker-exactly-bytes = ?
+  checker-exactly-bytes = zero-keeps file j e
 
 -- so it accepts the planner's own plan, whatever the slices or the bytes held before
 pub own-plan-accepted : (file starts processors scratch : List ℕ) (m E : ℕ) → planCall file starts processors scratch .answer ≡ Plan m E
     → checkCall file (planCall file starts processors scratch .starts) (planCall file starts processors scratch .processors) ≡ Yes
-own-plan-accepted = ?
+own-plan-accepted = slices-accepted
 
 pub own-bytes-accepted : (file plan : List ℕ) → planBytesCall file plan .number ≡ 0 → checkBytesCall file (planBytesCall file plan .plan) ≡ 0
-own-bytes-accepted = ?
+own-bytes-accepted = bytes-accepted
 
 -- ---- 00: "A job that the writer takes, written out and read, is the same job .."
 
 pub written-and-read : (p : Platform) (m l : ℕ) (durations from to counts out : List ℕ) → Held durations to counts → (n : ℕ)
     → writeAnswer m l (heldJob p m l durations from to counts) out ≡ Length n
     → readJob (take n (writeOut (Length n) (heldJob p m l durations from to counts) out)) ≡ accepted (heldJob p m l durations from to counts)
-written-and-read = ?
+written-and-read = written-read
 
 -- ---- 00: ".. and an accepted file written out is the same bytes."
 
@@ -93,4 +104,4 @@ pub read-and-written : (file : List ℕ) (j : Job) (out : List ℕ) → Bytes fi
     (readingOf (readJob file) .to) (readingOf (readJob file) .counts) ≡ j)
     × (writeAnswer (length (j .tasks)) (length (j .edges)) j out ≡ Length (length file))
     × (writeOut (Length (length file)) j out ≡ file ++ drop (length file) out)
-read-and-written = ?
+read-and-written file j out b e h = let w = read-written file j out b e h in (rw e (read-held j), w .0, w .1)

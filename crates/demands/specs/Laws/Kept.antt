@@ -1,0 +1,161 @@
+-- What a call leaves, place by place, is the rule's; what the checker returns is a yes exactly where its answer is none.
+use mathlib.Core.Bool.{true, false}
+use mathlib.Core.Logic.{_↔_, _⊎_, inl, inr}
+use mathlib.Core.Option.{Option, none, some}
+use mathlib.Core.Path.{_≡_, refl, ap, sym, _∙_}
+use mathlib.Core.List.{List, _++_}
+use Prim.Native.Nat.{ℕ, _*_, _^_, _≤_, _<_}
+use native.Mathlib.Omega.{arith}
+use borrow.Author.Tests.{lt-ltb, le-ltb}
+use lib.ListN.{length, getD, drop}
+use Rattle.job.specs.Job.{Edge, Job}
+use Rattle.job.specs.Read.{Answer, accepted, refused, readJob}
+use Rattle.job.specs.Accepted.{accepted-job}
+use Rattle.job.specs.Refusal.{read-numbers}
+use Rattle.job.specs.Laws.Tests.{never}
+use Rattle.etf.specs.Instance.{Instance, tasks}
+use Rattle.etf.specs.Schedule.{Placement, placementOf, scheduleOf}
+use Rattle.etf.specs.Rule.{planned}
+use Rattle.etf.specs.Dearest.{Chain, price}
+use Rattle.etf.specs.Checker.{Keeps, check, Because, no-processor, too-late, overlaps, too-early}
+use Rattle.etf.specs.Verdict.{yes-exactly, number-only}
+use Rattle.etf.specs.Walks.{CoverWalk, cover-walk}
+use Rattle.etf.specs.Chains.{none-dearer, one-as-dear}
+use Rattle.etf.specs.OfJob.{instance}
+use Rattle.etf.specs.Jobs.{well-formed, no-finish-passes}
+use Rattle.etf.specs.Laws.Planned.{home}
+use Rattle.etf.specs.Laws.Tests.{le-or-lt}
+use Rattle.schedule.specs.declared.Checked.the-variants.{Yes}
+use Rattle.schedule.specs.Plan.{startOf, processorOf, planAccepted, planFor, planCall}
+use Rattle.schedule.specs.Cover.{coverAccepted, coverFor}
+use Rattle.schedule.specs.Check.{checkOf, checkedAs, checkFor, checkCall}
+use Rattle.schedule.specs.PlanBytes.{planBytes, processorIn, startIn, planBytesFor, planBytesCall, numberOf, checkBytesFor, checkBytesCall}
+use Rattle.schedule.specs.Laws.Filled.{filled-at}
+use Rattle.schedule.specs.Laws.Decoded.{processor-back, start-back}
+use Rattle.demands.specs.Laws.Calls.{Short, Fits, short-or-fits, short-true, fits-false, PlannedAs, CoveredAs}
+
+-- ---- the planner's slices
+
+-- after an acceptance each task's place holds the rule's start and processor
+pub slices-hold : {file starts processors scratch : List ℕ} {m E : ℕ} (P : PlannedAs file starts processors scratch m E) (T : ℕ) → T < m
+    → (getD (planCall file starts processors scratch .starts) T 0 ≡ placementOf (planned (instance (P .job))) T .start)
+    × (getD (planCall file starts processors scratch .processors) T 0 ≡ placementOf (planned (instance (P .job))) T .processor)
+unfolding planAccepted startOf processorOf
+slices-hold {starts = starts} {processors = processors} P T h =
+    let I = instance (P .job) in
+    let b : T < tasks I = omega (arith, P .tasks-are) in
+    rw (P .call-is) (filled-at (startOf I) (tasks I) starts T b, filled-at (processorOf I) (tasks I) processors T b)
+
+-- the cover call leaves what the planner leaves, whatever the reader's answer
+pub same-slices : (a : Answer) (starts processors scratch : List ℕ)
+    → (coverFor a starts processors scratch .starts ≡ planFor a starts processors scratch .starts)
+    × (coverFor a starts processors scratch .processors ≡ planFor a starts processors scratch .processors)
+    × (coverFor a starts processors scratch .scratch ≡ planFor a starts processors scratch .scratch)
+unfolding coverFor planFor coverAccepted planAccepted
+same-slices (accepted j) starts processors scratch = go (short-or-fits (tasks (instance j)) starts processors scratch)
+  where
+    go : Short (tasks (instance j)) starts processors scratch ⊎ Fits (tasks (instance j)) starts processors scratch
+        → (coverFor (accepted j) starts processors scratch .starts ≡ planFor (accepted j) starts processors scratch .starts)
+        × (coverFor (accepted j) starts processors scratch .processors ≡ planFor (accepted j) starts processors scratch .processors)
+        × (coverFor (accepted j) starts processors scratch .scratch ≡ planFor (accepted j) starts processors scratch .scratch)
+    go (inl s) = rw (short-true (tasks (instance j)) starts processors scratch s) (refl, refl, refl)
+    go (inr f) = rw (fits-false (tasks (instance j)) starts processors scratch f) (refl, refl, refl)
+same-slices (refused k) starts processors scratch = (refl, refl, refl)
+
+-- ---- the cover call's two numbers
+
+-- the walk that adds up to C, and what makes D the dearest chain
+pub record Measured (I : Instance) (D : ℕ) : Type 0 where
+  pub walk-is : CoverWalk I
+  pub no-chain-dearer : (es : List Edge) → Chain I es → price I es ≤ D
+  pub a-chain-as-dear : (es : List Edge) × Chain I es × (price I es ≡ D)
+
+pub measured : {file starts processors scratch : List ℕ} {C D : ℕ} (Q : CoveredAs file starts processors scratch C D) → Measured (instance (Q .job)) D
+measured {file = file} Q =
+    let I = instance (Q .job) in
+    let W = well-formed (Q .job) (accepted-job file (Q .job) (Q .says)) in
+    let d = Q .dearest-is in
+    let top = one-as-dear I in
+    record { walk-is = cover-walk I W; no-chain-dearer = λ es c. omega (arith, d, none-dearer I W es c); a-chain-as-dear = (top .0, top .1, top .2 ∙ sym d) }
+
+-- ---- the plan's bytes
+
+-- what the call from C says by 0: the file is accepted, and each task's five bytes are the rule's start and processor
+pub record BytesAs (file plan : List ℕ) : Type 0 where
+  pub job : Job
+  pub says : readJob file ≡ accepted job
+  pub starts-hold : (T : ℕ) → T < tasks (instance job) → startIn (planBytesCall file plan .plan) T ≡ placementOf (planned (instance job)) T .start
+  pub processors-hold : (T : ℕ) → T < tasks (instance job) → processorIn (planBytesCall file plan .plan) T ≡ placementOf (planned (instance job)) T .processor
+
+pub bytes-as : (file plan : List ℕ) → planBytesCall file plan .number ≡ 0 → BytesAs file plan
+unfolding planBytesCall planBytesFor startOf processorOf
+bytes-as file plan h = go (readJob file) refl h
+  where
+    start-fits : (j : Job) → readJob file ≡ accepted j → (T : ℕ) → T < tasks (instance j) → startOf (instance j) T < 2 ^ 32
+    start-fits j e T b =
+        let a = accepted-job file j e in
+        omega (arith, no-finish-passes j a (placementOf (planned (instance j)) T) (home (instance j) (well-formed j a) T b .0))
+
+    held : (j : Job) → readJob file ≡ accepted j → (5 * tasks (instance j) ≤ length plan) ⊎ (length plan < 5 * tasks (instance j))
+        → planBytesFor (accepted j) plan .number ≡ 0 → BytesAs file plan
+    held j e (inl p) w =
+        let I = instance j in
+        let full : planBytesCall file plan .plan ≡ planBytes (tasks I) (processorOf I) (startOf I) ++ drop (5 * tasks I) plan =
+        rw (e, planBytesFor, le-ltb (length plan) (5 * tasks I) p) in
+        record {
+          job = j;
+          says = e;
+          starts-hold = λ T b. rw full (start-back (tasks I) (processorOf I) (startOf I) (drop (5 * tasks I) plan) T b (start-fits j e T b));
+          processors-hold = λ T b. rw full (processor-back (tasks I) (processorOf I) (startOf I) (drop (5 * tasks I) plan) T b);
+        }
+    held j e (inr p) w = let v : _≡_ {A = ℕ} 9 0 = rw (lt-ltb (length plan) (5 * tasks (instance j)) p) at w in absurd (omega arith)
+
+    go : (a : Answer) → readJob file ≡ a → planBytesFor a plan .number ≡ 0 → BytesAs file plan
+    go (accepted j) e w = held j e (le-or-lt (5 * tasks (instance j)) (length plan)) w
+    go (refused k) e w = absurd (omega (arith, read-numbers file k e, w))
+
+-- ---- the checker's answer
+
+-- 0 is no number of the checker's table
+not-zero : (I : Instance) (ps : List Placement) (k : ℕ) → Because I ps k → k ≡ 0 → ⊥
+not-zero I ps _ (no-processor u h b) e = omega (arith, e)
+not-zero I ps _ (too-late u h b) e = omega (arith, e)
+not-zero I ps _ (overlaps u v a b c d f g) e = omega (arith, e)
+not-zero I ps _ (too-early f a u v b c d g h) e = omega (arith, e)
+
+-- a yes is the answer none
+yes-none : (o : Option ℕ) → checkedAs o ≡ Yes → o ≡ none
+unfolding checkedAs
+yes-none none e = refl
+yes-none (some k) e = let z : false ≡ true = cc in never z
+
+-- and so is the number 0
+zero-none : (I : Instance) (ps : List Placement) → numberOf (check I ps) ≡ 0 → check I ps ≡ none
+unfolding numberOf
+zero-none I ps e = go (check I ps) refl e
+  where
+    go : (o : Option ℕ) → check I ps ≡ o → numberOf o ≡ 0 → o ≡ none
+    go none d z = refl
+    go (some k) d z = absurd (not-zero I ps k (number-only I ps k d) z)
+
+module _ (file : List ℕ) (j : Job) (e : readJob file ≡ accepted j) where
+  -- where the slices have room, the checker's call is a yes exactly if the rules hold
+  pub yes-keeps : (starts processors : List ℕ) → tasks (instance j) ≤ length starts → tasks (instance j) ≤ length processors
+      → checkCall file starts processors ≡ Yes ↔ Keeps (instance j) (scheduleOf (instance j) (λ T. getD processors T 0) (λ T. getD starts T 0))
+  unfolding checkCall checkFor checkOf checkedAs
+  yes-keeps starts processors s p =
+      let ps = scheduleOf (instance j) (λ T. getD processors T 0) (λ T. getD starts T 0) in
+      let call : checkCall file starts processors ≡ checkedAs (check (instance j) ps) =
+      rw (e, checkFor, le-ltb (length starts) (tasks (instance j)) s, le-ltb (length processors) (tasks (instance j)) p) in
+      let y = yes-exactly (instance j) ps in
+      ((λ h. y .0 (yes-none (check (instance j) ps) (sym call ∙ h))), (λ k. call ∙ ap checkedAs (y .1 k)))
+
+  -- and the call from C is 0 exactly if they hold
+  pub zero-keeps : (plan : List ℕ) → 5 * tasks (instance j) ≤ length plan
+      → checkBytesCall file plan ≡ 0 ↔ Keeps (instance j) (scheduleOf (instance j) (processorIn plan) (startIn plan))
+  unfolding checkBytesCall checkBytesFor checkOf numberOf
+  zero-keeps plan l =
+      let ps = scheduleOf (instance j) (processorIn plan) (startIn plan) in
+      let call : checkBytesCall file plan ≡ numberOf (check (instance j) ps) = rw (e, checkBytesFor, le-ltb (length plan) (5 * tasks (instance j)) l) in
+      let y = yes-exactly (instance j) ps in
+      ((λ h. y .0 (zero-none (instance j) ps (sym call ∙ h))), (λ k. call ∙ ap numberOf (y .1 k)))
