@@ -13,6 +13,7 @@ use Rattle.job.specs.Record.{kindOf}
 use Rattle.job.specs.Read.{accepted, refused, readJob, readingOf}
 use Rattle.job.specs.Cause.{Cause, Reached}
 use Rattle.job.specs.Write.{fileOf, fileLength, heldJob, Held, writeAnswer, writeOut}
+use Rattle.job.specs.Refusal.{read-refused, write-refused}
 use Rattle.etf.specs.Instance.{tasks}
 use Rattle.etf.specs.Schedule.{scheduleOf}
 use Rattle.etf.specs.Checker.{Because}
@@ -23,6 +24,8 @@ use Rattle.schedule.specs.declared.Checked.the-variants.{Yes, Refused as NotChe
 use Rattle.schedule.specs.Plan.{called, planCall}
 use Rattle.schedule.specs.Cover.{covered, coverCall}
 use Rattle.schedule.specs.Check.{checkCall}
+use Rattle.schedule.specs.Laws.Reading.{refused-is}
+use Rattle.demands.specs.Laws.Judged.{read-answers, check-refuses, check-answers, check-returns, check-returns-number, write-answers, write-leaves}
 use Rattle.schedule.specs.PlanBytes.{returned, processorIn, startIn, planBytesCall, checkBytesCall}
 
 -- ---- 00: "The answer to every job file .. is an acceptance or one of the refusal numbers of document 01, whatever the bytes."
@@ -31,13 +34,13 @@ module _ (file : List ℕ) where
   -- the reader accepts, or refuses by 1 to 8
   pub reader-answers : ((m l : ℕ) × (readingOf (readJob file) .verdict ≡ Counts m l))
       ⊎ ((k : ℕ) × (readingOf (readJob file) .verdict ≡ NotRead k) × (1 ≤ k) × (k ≤ 8))
-  reader-answers = ?
+  reader-answers = read-answers file
 
   -- by a number only with its condition: at a place that it comes to past records without trouble the file ends (1), or a record has the number's cause
   pub reader-refuses : (k : ℕ) → readingOf (readJob file) .verdict ≡ NotRead k →
       (at : ℕ) × (j : Job) × Reached file at j
       × (((length file ≤ at) × (k ≡ 1)) ⊎ ((at < length file) × Cause (drop (suc at) file) j (kindOf (getD file at 0)) k))
-  reader-refuses = ?
+  reader-refuses k e = read-refused file k (refused-is (readJob file) e)
 
   module _ (starts processors scratch : List ℕ) where
     -- the planner accepts, or refuses by 1 to 9
@@ -74,7 +77,7 @@ module _ (file : List ℕ) where
 
   module _ (starts processors : List ℕ) where
     pub checker-answers : (checkCall file starts processors ≡ Yes) ⊎ ((k : ℕ) × (checkCall file starts processors ≡ NotChecked k) × (1 ≤ k) × (k ≤ 13))
-    checker-answers = ?
+    checker-answers = check-answers file starts processors
 
     -- the reader's number for the file, 9 for a slice too short for an accepted job, or 10 to 13 for a plan that breaks the rule of that number
     pub checker-refuses : (k : ℕ) → checkCall file starts processors ≡ NotChecked k →
@@ -82,17 +85,17 @@ module _ (file : List ℕ) where
         ⊎ ((j : Job) × (readJob file ≡ accepted j)
         × (((k ≡ 9) × ((length starts < tasks (instance j)) ⊎ (length processors < tasks (instance j))))
         ⊎ Because (instance j) (scheduleOf (instance j) (λ T. getD processors T 0) (λ T. getD starts T 0)) k))
-    checker-refuses = ?
+    checker-refuses = check-refuses file starts processors
 
   -- the checker from C
   pub checker-returns : (plan : List ℕ) → checkBytesCall file plan ≤ 13
-  checker-returns = ?
+  checker-returns = check-returns file
 
   pub checker-returns-number : (plan : List ℕ) (k : ℕ) → 1 ≤ k → checkBytesCall file plan ≡ k →
       (readJob file ≡ refused k)
       ⊎ ((j : Job) × (readJob file ≡ accepted j)
       × (((k ≡ 9) × (length plan < 5 * tasks (instance j))) ⊎ Because (instance j) (scheduleOf (instance j) (processorIn plan) (startIn plan)) k))
-  checker-returns-number = ?
+  checker-returns-number = check-returns-number file
 
 -- ---- the writer, for a job held as numbers: it writes, or refuses by 3 to 7 or 9
 
@@ -102,18 +105,18 @@ module _ (p : Platform) (m l : ℕ) (durations from to counts out : List ℕ) (h
 
   pub writer-answers : (writeAnswer m l held out ≡ Length (fileLength m l))
       ⊎ ((k : ℕ) × (writeAnswer m l held out ≡ NotWritten k) × (((3 ≤ k) × (k ≤ 7)) ⊎ (k ≡ 9)))
-  writer-answers = ?
+  writer-answers = write-answers p m l durations from to counts out h
 
   -- 5 for a count too large, the reader's number for the job's file, or 9 for too little room, each only with its condition
   pub writer-refuses : (k : ℕ) → writeAnswer m l held out ≡ NotWritten k →
       ((k ≡ 5) × ((256 < m) ⊎ (1024 < l))) ⊎ ((readJob (fileOf held) ≡ refused k) ⊎ ((k ≡ 9) × (length out < fileLength m l)))
-  writer-refuses = ?
+  writer-refuses k e = write-refused m l k held out e
 
 -- ---- 00: "It comes for each input, and a refused call leaves each lent buffer unaltered."
 
   -- the writer's output
   pub writer-leaves : (k : ℕ) → writeAnswer m l held out ≡ NotWritten k → writeOut (writeAnswer m l held out) held out ≡ out
-  writer-leaves = ?
+  writer-leaves = write-leaves (writeAnswer m l held out) held out
 
 module _ (file starts processors scratch : List ℕ) (k : ℕ) where
   -- the planner's three slices, and the cover call's
