@@ -27,6 +27,8 @@ use Rattle.schedule.specs.Check.{checkCall}
 use Rattle.schedule.specs.Laws.Reading.{refused-is}
 use Rattle.demands.specs.Laws.Judged.{read-answers, check-refuses, check-answers, check-returns, check-returns-number, write-answers, write-leaves}
 use Rattle.schedule.specs.PlanBytes.{returned, processorIn, startIn, planBytesCall, checkBytesCall}
+use Rattle.demands.specs.Laws.Refused.{plan-answered, plan-number, plan-cause, plan-refused, cover-answered, cover-cause, cover-refused}
+use Rattle.demands.specs.Laws.Refused.{plan-as-cover, cover-as-plan, bytes-answered, bytes-number, bytes-cause, bytes-refused}
 
 -- ---- 00: "The answer to every job file .. is an acceptance or one of the refusal numbers of document 01, whatever the bytes."
 
@@ -46,32 +48,32 @@ module _ (file : List ℕ) where
     -- the planner accepts, or refuses by 1 to 9
     pub planner-answers : ((m e : ℕ) × (planCall file starts processors scratch .answer ≡ Plan m e))
         ⊎ ((k : ℕ) × (planCall file starts processors scratch .answer ≡ NotPlanned k) × (1 ≤ k) × (k ≤ 9))
-    planner-answers = ?
+    planner-answers = plan-answered file starts processors scratch
 
     -- by the reader's number for the file, or by 9 for a slice that is too short for an accepted job, and then only
     pub planner-refuses : (k : ℕ) → planCall file starts processors scratch .answer ≡ NotPlanned k
         ↔ ((readJob file ≡ refused k)
         ⊎ ((k ≡ 9) × (j : Job) × (readJob file ≡ accepted j)
         × ((length starts < tasks (instance j)) ⊎ ((length processors < tasks (instance j)) ⊎ (length scratch < 4096)))))
-    planner-refuses = ?
+    planner-refuses k = (plan-cause file starts processors scratch k, plan-number file starts processors scratch k)
 
     -- the cover call accepts, or refuses by 1 to 9
     pub cover-answers : ((C D : ℕ) × (coverCall file starts processors scratch .answer ≡ Cover C D))
         ⊎ ((k : ℕ) × (coverCall file starts processors scratch .answer ≡ NotCovered k) × (1 ≤ k) × (k ≤ 9))
-    cover-answers = ?
+    cover-answers = cover-answered file starts processors scratch
 
     -- where the planner does, and then only (01: "it refuses as the planner does")
     pub cover-refuses : (k : ℕ) → coverCall file starts processors scratch .answer ≡ NotCovered k ↔ planCall file starts processors scratch .answer ≡ NotPlanned k
-    cover-refuses = ?
+    cover-refuses k = (plan-as-cover file starts processors scratch k, cover-as-plan file starts processors scratch k)
 
   -- the planner from C returns 0, or 1 to 9
   pub planner-returns : (plan : List ℕ) → planBytesCall file plan .number ≤ 9
-  planner-returns = ?
+  planner-returns plan = bytes-answered file plan
 
   -- the reader's number for the file, or 9 for a plan too short for an accepted job, and then only
   pub planner-returns-number : (plan : List ℕ) (k : ℕ) → 1 ≤ k → planBytesCall file plan .number ≡ k
       ↔ ((readJob file ≡ refused k) ⊎ ((k ≡ 9) × (j : Job) × (readJob file ≡ accepted j) × (length plan < 5 * tasks (instance j))))
-  planner-returns-number = ?
+  planner-returns-number plan k h = (bytes-cause file plan k h, bytes-number file plan k)
 
 -- ---- 00: ".. and to every plan handed in for checking ..": the checker accepts, or refuses by 1 to 13, each only with its condition
 
@@ -121,11 +123,11 @@ module _ (p : Platform) (m l : ℕ) (durations from to counts out : List ℕ) (h
 module _ (file starts processors scratch : List ℕ) (k : ℕ) where
   -- the planner's three slices, and the cover call's
   pub planner-leaves : planCall file starts processors scratch .answer ≡ NotPlanned k → planCall file starts processors scratch ≡ called (NotPlanned k) starts processors scratch
-  planner-leaves = ?
+  planner-leaves h = plan-refused file starts processors scratch k (plan-cause file starts processors scratch k h)
 
   pub cover-leaves : coverCall file starts processors scratch .answer ≡ NotCovered k → coverCall file starts processors scratch ≡ covered (NotCovered k) starts processors scratch
-  cover-leaves = ?
+  cover-leaves h = cover-refused file starts processors scratch k (cover-cause file starts processors scratch k h)
 
 -- the plan that C lends to the planner; the checker is lent nothing that it could alter
 pub planner-leaves-bytes : (file plan : List ℕ) (k : ℕ) → 1 ≤ k → planBytesCall file plan .number ≡ k → planBytesCall file plan ≡ returned k plan
-planner-leaves-bytes = ?
+planner-leaves-bytes file plan k h e = bytes-refused file plan k (bytes-cause file plan k h e)
