@@ -75,7 +75,7 @@ module _ (file : List ℕ) where
       ↔ ((readJob file ≡ refused k) ⊎ ((k ≡ 9) × (j : Job) × (readJob file ≡ accepted j) × (length plan < 5 * tasks (instance j))))
   planner-returns-number plan k h = (bytes-cause file plan k h, bytes-number file plan k)
 
--- ---- 00: ".. and to every plan handed in for checking ..": the checker accepts, or refuses by 1 to 13, each only with its condition
+  -- ---- 00: ".. and to every plan handed in for checking ..": the checker accepts, or refuses by 1 to 13, each only with its condition
 
   module _ (starts processors : List ℕ) where
     pub checker-answers : (checkCall file starts processors ≡ Yes) ⊎ ((k : ℕ) × (checkCall file starts processors ≡ NotChecked k) × (1 ≤ k) × (k ≤ 13))
@@ -114,7 +114,7 @@ module _ (p : Platform) (m l : ℕ) (durations from to counts out : List ℕ) (h
       ((k ≡ 5) × ((256 < m) ⊎ (1024 < l))) ⊎ ((readJob (fileOf held) ≡ refused k) ⊎ ((k ≡ 9) × (length out < fileLength m l)))
   writer-refuses k e = write-refused m l k held out e
 
--- ---- 00: "It comes for each input, and a refused call leaves each lent buffer unaltered."
+  -- ---- 00: "It comes for each input, and a refused call leaves each lent buffer unaltered."
 
   -- the writer's output
   pub writer-leaves : (k : ℕ) → writeAnswer m l held out ≡ NotWritten k → writeOut (writeAnswer m l held out) held out ≡ out

@@ -2,6 +2,5 @@
 pub mod Demand1
 pub mod Demand2
 pub mod Demand3
-
 -- what their proofs rest on
 pub mod Laws
