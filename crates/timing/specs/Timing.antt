@@ -1,9 +1,10 @@
--- What the benchmark's two functions return and leave, over what the job reader and writer return and leave.
+-- What the functions for benchmark and differential return and leave, over what the job reader and writer and the cover call return and leave.
 use mathlib.Core.Path.{_≡_}
-use mathlib.Core.List.{List}
+use mathlib.Core.Bool.{not}
+use mathlib.Core.List.{List, [], _∷_}
 use Prim.Native.Nat.{ℕ, _-_}
-use lib.Dec.{ltb}
-use lib.ListN.{getD}
+use lib.Dec.{ltb, eqb}
+use lib.ListN.{length, getD}
 use Rattle.job.specs.declared.Reading.{Reading}
 use Rattle.job.specs.declared.Verdict.{Verdict}
 use Rattle.job.specs.declared.Verdict.the-variants.{Counts, Refused as NotRead}
@@ -12,6 +13,9 @@ use Rattle.job.specs.declared.Written.the-variants.{Length, Refused as NotWritt
 use Rattle.job.specs.Number.{pick}
 use Rattle.job.specs.Job.{Job}
 use Rattle.job.specs.Write.{heldJob, writeAnswer, writeOut}
+use Rattle.schedule.specs.declared.Covered.{Covered}
+use Rattle.schedule.specs.declared.Covered.the-variants.{Cover, Refused as NotCovered}
+use Rattle.schedule.specs.Cover.{CoverCall, coverCall}
 
 -- 0 for an accepted file, or the refusal's number
 abbrev pub readNumber : Verdict → ℕ
@@ -50,3 +54,35 @@ copyOut (NotRead k) r out = out
 pub record Copied (number : ℕ) (after : List ℕ) (r : Reading) (before : List ℕ) : Type 0 where
   pub answer : number ≡ writtenNumber (copyAnswer (r .verdict) r before)
   pub output : after ≡ copyOut (r .verdict) r before
+
+-- the number of a refused cover call; 0 for an accepted one
+abbrev pub refusalIn : Covered → ℕ
+refusalIn (Cover C D) = 0
+refusalIn (NotCovered k) = k
+
+-- the two numbers of an accepted cover call, or what the output held
+abbrev pub numbersIn : Covered → List ℕ → List ℕ
+numbersIn (Cover C D) out = C ∷ D ∷ []
+numbersIn (NotCovered k) out = out
+
+-- what a call returns, and the last content of the starts, the processors, the scratch and the output
+pub record CoverReturned : Type 0 where
+  pub number : ℕ
+  pub starts : List ℕ
+  pub processors : List ℕ
+  pub scratch : List ℕ
+  pub out : List ℕ
+
+abbrev pub coverReturned : ℕ → List ℕ → List ℕ → List ℕ → List ℕ → CoverReturned
+coverReturned k starts processors scratch out =
+    record { number = k; starts = starts; processors = processors; scratch = scratch; out = out }
+
+-- the cover call with its numbers in an output
+abbrev pub withOutput : CoverCall → List ℕ → CoverReturned
+withOutput c out = coverReturned (refusalIn (c .answer)) (c .starts) (c .processors) (c .scratch) (numbersIn (c .answer) out)
+
+-- 9 if the output has not two places
+unfoldable pub coverTimed : List ℕ → List ℕ → List ℕ → List ℕ → List ℕ → CoverReturned
+coverTimed file starts processors scratch out =
+    pick (not (eqb (length out) 2)) (coverReturned 9 starts processors scratch out)
+    (withOutput (coverCall file starts processors scratch) out)

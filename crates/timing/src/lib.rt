@@ -1,9 +1,10 @@
-// The job reader and writer as functions that the benchmark calls (bench/).
+// The job reader and writer and the cover call as functions that the benchmark (bench/) and the differential (tests/differential) call from C.
 use job::Verdict;
 use job::Written;
+use schedule::Covered;
 ghost use mathlib.Core.Path.{_≡_};
 ghost use Rattle.job.specs.Read.{readJob, readingOf};
-ghost use Rattle.timing.specs.Timing.{readNumber, writtenNumber, numberAt, Copied};
+ghost use Rattle.timing.specs.Timing.{readNumber, writtenNumber, numberAt, Copied, refusalIn, coverReturned, coverTimed};
 
 fn wide8(x: u8) -> u32
     ensures { λ r. ⌜ r ≡ x ⌝ }
@@ -80,4 +81,40 @@ pub extern "C" fn timing_copy(file: &[u8], out: &mut [u8]) -> u32
         out,
     );
     written_number(written)
+}
+
+// The number of a refused cover call.
+fn cover_refusal(covered: Covered) -> u32
+    ensures { λ r. ⌜ r ≡ refusalIn covered ⌝ }
+{
+    match covered {
+        Covered::Cover {
+            cover: _,
+            dearest: _,
+        } => 0,
+        Covered::Refused(number) => wide8(number),
+    }
+}
+
+// The cover call: 0 with the cover and the dearest chain in the two places of `out`, or the refusal's number; 9 too if `out` has not two places.
+#[no_mangle]
+pub extern "C" fn timing_cover(
+    file: &[u8],
+    starts: &mut [u32],
+    processors: &mut [u8],
+    scratch: &mut [u32],
+    out: &mut [u32],
+) -> u32
+    ensures { λ r. ⌜ coverReturned r (now (starts .exit)) (now (processors .exit)) (now (scratch .exit)) (now (out .exit)) ≡ coverTimed (now (file .entry)) (now (starts .entry)) (now (processors .entry)) (now (scratch .entry)) (now (out .entry)) ⌝ }
+{
+    if out.len() != 2 {
+        return 9;
+    }
+    let covered = schedule::cover(file, starts, processors, scratch);
+    let Covered::Cover { cover, dearest } = covered else {
+        return cover_refusal(covered);
+    };
+    out[0] = cover;
+    out[1] = dearest;
+    0
 }
