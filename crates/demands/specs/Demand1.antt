@@ -23,10 +23,10 @@ use Rattle.schedule.specs.declared.Covered.the-variants.{Cover, Refused as NotC
 use Rattle.schedule.specs.declared.Checked.the-variants.{Yes, Refused as NotChecked}
 use Rattle.schedule.specs.Plan.{called, planCall}
 use Rattle.schedule.specs.Cover.{covered, coverCall}
-use Rattle.schedule.specs.Check.{checkCall}
+use Rattle.schedule.specs.Check.{checkFor, checkCall}
 use Rattle.schedule.specs.Laws.Reading.{refused-is}
 use Rattle.demands.specs.Laws.Judged.{read-answers, check-refuses, check-answers, check-returns, check-returns-number, write-answers, write-leaves}
-use Rattle.schedule.specs.PlanBytes.{returned, processorIn, startIn, planBytesCall, checkBytesCall}
+use Rattle.schedule.specs.PlanBytes.{returned, processorIn, startIn, planBytesCall, checkBytesFor, checkBytesCall}
 use Rattle.demands.specs.Laws.Refused.{plan-answered, plan-number, plan-cause, plan-refused, cover-answered, cover-cause, cover-refused}
 use Rattle.demands.specs.Laws.Refused.{plan-as-cover, cover-as-plan, bytes-answered, bytes-number, bytes-cause, bytes-refused}
 
@@ -63,7 +63,8 @@ module _ (file : List ℕ) where
     cover-answers = cover-answered file starts processors scratch
 
     -- where the planner does, and then only (01: "it refuses as the planner does")
-    pub cover-refuses : (k : ℕ) → coverCall file starts processors scratch .answer ≡ NotCovered k ↔ planCall file starts processors scratch .answer ≡ NotPlanned k
+    pub cover-refuses : (k : ℕ)
+        → coverCall file starts processors scratch .answer ≡ NotCovered k ↔ planCall file starts processors scratch .answer ≡ NotPlanned k
     cover-refuses k = (plan-as-cover file starts processors scratch k, cover-as-plan file starts processors scratch k)
 
   -- the planner from C returns 0, or 1 to 9
@@ -78,7 +79,8 @@ module _ (file : List ℕ) where
   -- ---- 00: ".. and to every plan handed in for checking ..": the checker accepts, or refuses by 1 to 13, each only with its condition
 
   module _ (starts processors : List ℕ) where
-    pub checker-answers : (checkCall file starts processors ≡ Yes) ⊎ ((k : ℕ) × (checkCall file starts processors ≡ NotChecked k) × (1 ≤ k) × (k ≤ 13))
+    pub checker-answers : (checkCall file starts processors ≡ Yes)
+        ⊎ ((k : ℕ) × (checkCall file starts processors ≡ NotChecked k) × (1 ≤ k) × (k ≤ 13))
     checker-answers = check-answers file starts processors
 
     -- the reader's number for the file, 9 for a slice too short for an accepted job, or 10 to 13 for a plan that breaks the rule of that number
@@ -89,15 +91,25 @@ module _ (file : List ℕ) where
         ⊎ Because (instance j) (scheduleOf (instance j) (λ T. getD processors T 0) (λ T. getD starts T 0)) k))
     checker-refuses = check-refuses file starts processors
 
+    -- 01: "A refused job is passed on with the reader's own number"
+    pub checker-passes-on : (k : ℕ) → readJob file ≡ refused k → checkCall file starts processors ≡ NotChecked k
+    unfolding checkCall checkFor
+    checker-passes-on k e = rw e
+
   -- the checker from C
   pub checker-returns : (plan : List ℕ) → checkBytesCall file plan ≤ 13
   checker-returns = check-returns file
 
+  -- each number but 0 only with its condition, and a refused file's own is returned
   pub checker-returns-number : (plan : List ℕ) (k : ℕ) → 1 ≤ k → checkBytesCall file plan ≡ k →
       (readJob file ≡ refused k)
       ⊎ ((j : Job) × (readJob file ≡ accepted j)
       × (((k ≡ 9) × (length plan < 5 * tasks (instance j))) ⊎ Because (instance j) (scheduleOf (instance j) (processorIn plan) (startIn plan)) k))
   checker-returns-number = check-returns-number file
+
+  pub checker-returns-passed : (plan : List ℕ) (k : ℕ) → readJob file ≡ refused k → checkBytesCall file plan ≡ k
+  unfolding checkBytesCall checkBytesFor
+  checker-returns-passed plan k e = rw e
 
 -- ---- the writer, for a job held as numbers: it writes, or refuses by 3 to 7 or 9
 
@@ -122,10 +134,12 @@ module _ (p : Platform) (m l : ℕ) (durations from to counts out : List ℕ) (h
 
 module _ (file starts processors scratch : List ℕ) (k : ℕ) where
   -- the planner's three slices, and the cover call's
-  pub planner-leaves : planCall file starts processors scratch .answer ≡ NotPlanned k → planCall file starts processors scratch ≡ called (NotPlanned k) starts processors scratch
+  pub planner-leaves : planCall file starts processors scratch .answer ≡ NotPlanned k
+      → planCall file starts processors scratch ≡ called (NotPlanned k) starts processors scratch
   planner-leaves h = plan-refused file starts processors scratch k (plan-cause file starts processors scratch k h)
 
-  pub cover-leaves : coverCall file starts processors scratch .answer ≡ NotCovered k → coverCall file starts processors scratch ≡ covered (NotCovered k) starts processors scratch
+  pub cover-leaves : coverCall file starts processors scratch .answer ≡ NotCovered k
+      → coverCall file starts processors scratch ≡ covered (NotCovered k) starts processors scratch
   cover-leaves h = cover-refused file starts processors scratch k (cover-cause file starts processors scratch k h)
 
 -- the plan that C lends to the planner; the checker is lent nothing that it could alter

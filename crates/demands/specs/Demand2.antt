@@ -1,4 +1,4 @@
--- Demand 2 of the notice: the plan is the planning rule's, C the walk's, the checker accepts exactly the plans that keep the rules, and nothing is lost in a file.
+-- Demand 2 of the notice: the plan is the planning rule's and C the walk's, the checker accepts exactly the plans that keep the rules, and no file loses anything.
 use mathlib.Core.Logic.{_↔_}
 use mathlib.Core.Path.{_≡_}
 use mathlib.Core.List.{List, _++_}
@@ -55,9 +55,11 @@ bytes-are-etf file plan h =
 -- the walk begins with the last task and adds up to C; D is the dearest chain: no chain of the job's edges is dearer, and one is as dear
 pub cover-is-walk : (file starts processors scratch : List ℕ) (C D : ℕ) → coverCall file starts processors scratch .answer ≡ Cover C D →
     (j : Job) × (readJob file ≡ accepted j) × (C ≡ cover (instance j)) × CoverWalk (instance j)
-    × (D ≡ dearest (instance j)) × ((es : List Edge) → Chain (instance j) es → price (instance j) es ≤ D) × ((es : List Edge) × Chain (instance j) es × (price (instance j) es ≡ D))
+    × (D ≡ dearest (instance j)) × ((es : List Edge) → Chain (instance j) es → price (instance j) es ≤ D)
+    × ((es : List Edge) × Chain (instance j) es × (price (instance j) es ≡ D))
 cover-is-walk file starts processors scratch C D h =
-    let Q = covered-as file starts processors scratch C D h in let M = measured Q in
+    let Q = covered-as file starts processors scratch C D h in
+    let M = measured Q in
     (Q .job, Q .says, Q .cover-is, M .walk-is, Q .dearest-is, M .no-chain-dearer, M .a-chain-as-dear)
 
 -- the plan that it measures is the planner's: the slices hold what the planner leaves
@@ -100,8 +102,9 @@ written-and-read = written-read
 
 -- what the reader returns holds the job, the writer takes it where there is room, and what it writes is the file
 pub read-and-written : (file : List ℕ) (j : Job) (out : List ℕ) → Bytes file → readJob file ≡ accepted j → length file ≤ length out →
-    (heldJob (j .platform) (length (j .tasks)) (length (j .edges)) (readingOf (readJob file) .durations) (readingOf (readJob file) .from)
-    (readingOf (readJob file) .to) (readingOf (readJob file) .counts) ≡ j)
+    (heldJob (readingOf (readJob file) .platform) (length (j .tasks)) (length (j .edges)) (readingOf (readJob file) .durations)
+    (readingOf (readJob file) .from) (readingOf (readJob file) .to) (readingOf (readJob file) .counts) ≡ j)
     × (writeAnswer (length (j .tasks)) (length (j .edges)) j out ≡ Length (length file))
     × (writeOut (Length (length file)) j out ≡ file ++ drop (length file) out)
+unfolding readingOf
 read-and-written file j out b e h = let w = read-written file j out b e h in (rw e (read-held j), w .0, w .1)

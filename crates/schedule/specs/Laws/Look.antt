@@ -97,7 +97,7 @@ module _ (from to : List ℕ) (ps : List Placement) (T k : ℕ) where
 
 module _ {I : Instance} {l : ℕ} {durations from to counts : List ℕ} (G : Given I l durations from to counts) where
   -- an edge into task T stands at a place
-  edge-place : (T : ℕ) (d : Edge) → d ∈ into I T → (k : ℕ) × (k < l) × (edgeHeld from to counts k ≡ d) × (getD to k 0 ≡ T)
+  pub edge-place : (T : ℕ) (d : Edge) → d ∈ into I T → (k : ℕ) × (k < l) × (edgeHeld from to counts k ≡ d) × (getD to k 0 ≡ T)
   unfolding edgeHeld
   edge-place T d h =
       let w = into-of I T d h in

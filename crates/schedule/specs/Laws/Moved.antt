@@ -25,15 +25,14 @@ use Rattle.etf.specs.OfJob.{instance}
 use Rattle.etf.specs.Cover.{later, latestInto, lastTask}
 use Rattle.etf.specs.Laws.Tests.{not-both, fails, both, or-left, or-right, pick-yes, pick-no, eq→eqb, le-or-lt}
 use Rattle.etf.specs.Laws.Lists.{place, length-upto, upto-at, Order, Best, nothing, found, best-is, by-greatest, by-greatest-then-least}
-use Rattle.etf.specs.Laws.Placements.{into-of}
 use Rattle.etf.specs.Laws.Planned.{home, on-processor}
 use Rattle.schedule.specs.Plan.{startOf, processorOf}
 use Rattle.schedule.specs.Pass.{most, InArrays}
 use Rattle.schedule.specs.CoverPass.{FirstMost, messageAt, reachAt, reachInto, MovesBack, HoldsPlan}
-use Rattle.schedule.specs.Laws.Lists.{value-at, for-values}
+use Rattle.schedule.specs.Laws.Lists.{value-at}
 use Rattle.schedule.specs.Laws.Most.{most-ge}
 use Rattle.schedule.specs.Laws.Given.{given, held-tasks, held-processors, cost-at, cost-small}
-use Rattle.schedule.specs.Laws.Look.{edge-into}
+use Rattle.schedule.specs.Laws.Look.{edge-place, edge-into}
 
 -- a member that no other beats, and that beats each member before it, is the best
 best-first : {X : Type 0} (beats : X → X → Bool) → Order beats → (d : X) (xs : List X) (i : ℕ) → i < length xs
@@ -85,15 +84,6 @@ module _ {platform : Platform} {m l : ℕ} {durations from to counts : List ℕ}
       go (inl u) q r = absurd (omega (arith, u, given A .rising i k (omega arith) (omega arith)))
       go (inr u) (inl q) r = let z : i ≡ k = omega arith in rw z (u .1)
       go (inr u) (inr q) r = omega (arith, u .1, r q (omega (arith, u .0)))
-
-  -- an edge into task T stands at a place
-  edge-place : (T : ℕ) (d : Edge) → d ∈ into I T → (k : ℕ) × (k < l) × (edgeHeld from to counts k ≡ d) × (getD to k 0 ≡ T)
-  unfolding edgeHeld
-  edge-place T d h =
-      let w = into-of I T d h in
-      let z = for-values (edgeHeld from to counts) (λ a. (k : ℕ) × (k < l) × (edgeHeld from to counts k ≡ a)) 0 l (λ k p q. (k, omega arith, refl)) d
-      (rw (given A .listed) at (w .0)) in
-      (z .0, z .1, z .2, ap (λ (a : Edge). a .to) (z .2) ∙ w .1)
 
   module _ {starts processors : List ℕ} (H : HoldsPlan I m starts processors) where
     -- the planner's schedule
@@ -178,7 +168,7 @@ module _ {platform : Platform} {m l : ℕ} {durations from to counts : List ℕ}
             go : (o : Option Edge) → Best (later I ps P) (into I T) o → o ≡ none
             go o (nothing x) = refl
             go o (found d i low) =
-                let q = edge-place T d i in
+                let q = edge-place (given A) T d i in
                 absurd (omega (arith, z, most-ge l f (q .0) (q .1), into-is (q .0) (q .1) (q .3), reach-is (q .0) (q .1), reach-some (q .0) (q .1)))
 
         module _ (k : ℕ) (F : FirstMost 1024 l f k) (some-there : 0 < most l f) where
@@ -226,7 +216,7 @@ module _ {platform : Platform} {m l : ℕ} {durations from to counts : List ℕ}
               go : (o : Option Edge) → Best (later I ps P) (into I T) o → o ≡ some (edgeHeld from to counts k)
               go o (nothing z) = absurd (z (edgeHeld from to counts k) there)
               go o (found d i low) =
-                  let q = edge-place T d i in
+                  let q = edge-place (given A) T d i in
                   let e = no-other (q .0) (q .1) (q .3) (rw (q .2) (low (edgeHeld from to counts k) there)) in
                   ap some (sym (ap (edgeHeld from to counts) e ∙ q .2))
 

@@ -8,35 +8,17 @@ use native.Mathlib.Nat.{mul-le-mul}
 use native.Mathlib.Omega.{arith}
 use borrow.Author.Needs.{needs}
 use lib.Dec.{eqb, eqb→eq}
-use lib.ListN.{length, getD, set, replicate, length-set}
-use lib.Seq.{getD-set-same, getD-set-other}
+use lib.ListN.{length, getD, replicate}
 use Rattle.job.specs.Number.{pick}
 use Rattle.job.specs.Laws.Lists.{zeros-at}
 use Rattle.etf.specs.Laws.Tests.{eq→eqb, fails, pick-yes, pick-no, same-or-not}
 use Rattle.schedule.specs.Pass.{most}
 use Rattle.schedule.specs.CoverPass.{chainBy, Chained}
+use Rattle.schedule.specs.Laws.Lifted.{Lifted, lifted, unlifted}
 use Rattle.schedule.specs.Laws.Most.{most-cut, most-more}
 use Rattle.schedule.specs.Laws.Chained.{none-yet, one-place}
 use Rattle.schedule.proofs.chains.sum.Statement.{statement}
 use Rattle.schedule.proofs.chains.sum.Tie as tie
-
--- entry t raised to x
-record Later (t x : ℕ) (before after : List ℕ) : Type 0 where
-  size : length after ≡ length before
-  here : getD after t 0 ≡ max (getD before t 0) x
-  elsewhere : (T : ℕ) → (T ≡ t → ⊥) → getD after T 0 ≡ getD before T 0
-
-stored : (t x : ℕ) (before after : List ℕ) → getD before t 0 < x → after ≡ set before t x → t < length before → Later t x before after
-stored t x before after h e l =
-    let at = getD-set-same before t x 0 l in
-    record {
-      size = ap length e ∙ length-set before t x;
-      here = rw e (at ∙ omega arith);
-      elsewhere = λ T d. rw e (getD-set-other before t T x 0 d);
-    }
-
-kept : (t x : ℕ) (before after : List ℕ) → x ≤ getD before t 0 → after ≡ before → Later t x before after
-kept t x before after h e = record { size = ap length e; here = rw e (omega arith); elsewhere = λ T d. rw e }
 
 module _ (from to counts : List ℕ) (l cost : ℕ) where
   -- what a chain takes whose last edge is edge i, where that edge goes to task T; of another edge 0
@@ -94,7 +76,7 @@ module _ (from to counts : List ℕ) (l cost : ℕ) where
       unfolding chainBy
       is-chain f c = is ∙ rw (← es, ← ec, whole f c)
 
-      more : (t : ℕ) (after : List ℕ) (top′ : ℕ) → t ≡ getD to k 0 → Later t x sums after → top′ ≡ max top x → Summed (k + 1) after top′
+      more : (t : ℕ) (after : List ℕ) (top′ : ℕ) → t ≡ getD to k 0 → Lifted t x sums after → top′ ≡ max top x → Summed (k + 1) after top′
       more t after top′ e m d = record {
         size = m .size ∙ S .size;
         small = λ T b. bound T b (same-or-not T t);
@@ -208,8 +190,8 @@ loop-again c =
     let v = at-loop .loop .inv in
     let t = at-to .index2 .ensures in
     let later = ⊎-elim
-    (λ w. stored _ _ _ _ (omega (arith, w .0 .taken)) (w .1) (omega (arith, t .1, v .1 .size)))
-    (λ w. kept _ _ _ _ (omega (arith, w .0 .left)) (w .1))
+    (λ w. lifted _ _ _ _ (omega (arith, w .0 .taken)) (w .1) (omega (arith, t .1, v .1 .size)))
+    (λ w. unlifted _ _ _ _ (omega (arith, w .0 .left)) (w .1))
     (c .before .if1 .came) in (
       search needs,
       more _ _ _ _ _ (pre .0 .3) (pre .1 .0) (pre .1 .1) _ _ _ (v .1) (search needs) _ _ (at-from .index .ensures .0) (at-wide .wide16 .ensures)

@@ -1,37 +1,20 @@
 -- `planner::send`: before edge k what was sent is what the edges `first` to before k send; each turn adds one edge, which changes the task that it goes to alone.
-use mathlib.Core.Path.{_≡_, refl, ap, sym, _∙_}
+use mathlib.Core.Path.{_≡_, refl, sym, _∙_}
 use mathlib.Core.Logic.{_⊎_, inl, inr, ⊎-elim}
 use mathlib.Core.List.{List}
 use Prim.Native.Nat.{ℕ, _+_, _*_, _-_, _≤_, _<_, max}
 use native.Mathlib.Omega.{arith}
 use borrow.Author.Needs.{needs}
-use lib.ListN.{length, getD, set, length-set}
+use lib.ListN.{length, getD, set}
 use lib.Seq.{getD-set-same, getD-set-other}
 use Rattle.job.specs.Number.{pick}
 use Rattle.etf.specs.Laws.Tests.{same-or-not}
 use Rattle.etf.specs.Laws.Sums.{sum, one-if, sum-grows}
 use Rattle.schedule.specs.Pass.{most, sentTo, Raised, Sent}
+use Rattle.schedule.specs.Laws.Lifted.{Lifted, lifted, unlifted}
 use Rattle.schedule.specs.Laws.Sending.{most-unsent, sum-unsent, most-sent, most-kept, sum-sent, sum-kept, unraised}
 use Rattle.schedule.proofs.planner.send.Statement.{statement}
 use Rattle.schedule.proofs.planner.send.Tie as tie
-
--- the latest finish of task t raised
-record Later (t finish : ℕ) (before after : List ℕ) : Type 0 where
-  size : length after ≡ length before
-  here : getD after t 0 ≡ max (getD before t 0) finish
-  elsewhere : (T : ℕ) → (T ≡ t → ⊥) → getD after T 0 ≡ getD before T 0
-
-stored : (t finish : ℕ) (before after : List ℕ) → getD before t 0 < finish → after ≡ set before t finish → t < length before → Later t finish before after
-stored t finish before after h e l =
-    let at = getD-set-same before t finish 0 l in
-    record {
-      size = ap length e ∙ length-set before t finish;
-      here = rw e (at ∙ omega arith);
-      elsewhere = λ T d. rw e (getD-set-other before t T finish 0 d);
-    }
-
-kept : (t finish : ℕ) (before after : List ℕ) → finish ≤ getD before t 0 → after ≡ before → Later t finish before after
-kept t finish before after h e = record { size = ap length e; here = rw e (omega arith); elsewhere = λ T d. rw e }
 
 module _ (first finish n : ℕ) (row to counts : List ℕ) where
   -- nothing is sent yet
@@ -96,7 +79,7 @@ module _ (first finish n : ℕ) (row to counts : List ℕ) where
 
     -- all three
     turn : (count : ℕ) (arrivals arrivals₁ arrivals₂ waiting waiting₁ latest latest₁ latest₂ : List ℕ) → count ≡ getD counts k 0
-        → Sent first k finish n row to counts arrivals arrivals₁ waiting waiting₁ latest latest₁ → Raised n t finish count row arrivals₁ arrivals₂ → Later t finish latest₁ latest₂
+        → Sent first k finish n row to counts arrivals arrivals₁ waiting waiting₁ latest latest₁ → Raised n t finish count row arrivals₁ arrivals₂ → Lifted t finish latest₁ latest₂
         → n ≤ 16 → t < length waiting₁ → 1 ≤ getD waiting₁ t 0
         → Sent first (k + 1) finish n row to counts arrivals arrivals₂ waiting (set waiting₁ t (getD waiting₁ t 0 - 1)) latest latest₂
     turn count arrivals arrivals₁ arrivals₂ waiting waiting₁ latest latest₁ latest₂ d s r m few l w = record {
@@ -186,8 +169,8 @@ loop-again c =
     let t = at-index .index .ensures in
     let v = at-loop .loop .inv in
     let m = ⊎-elim
-    (λ w. stored _ _ _ _ (w .0 .taken) (w .1) (omega (arith, t .1, v .4, pre .1 .0 .2)))
-    (λ w. kept _ _ _ _ (w .0 .left) (w .1))
+    (λ w. lifted _ _ _ _ (w .0 .taken) (w .1) (omega (arith, t .1, v .4, pre .1 .0 .2)))
+    (λ w. unlifted _ _ _ _ (w .0 .left) (w .1))
     (c .before .if1 .came) in (
       search needs,
       search needs,
