@@ -73,6 +73,15 @@ module _ (m : ℕ) (durations starts processors : List ℕ) where
 
 -- ---- the moves back
 
+-- the task that edge k comes from has its places in the arrays, and no time on the way passes 32 bits
+pub record Sender (durations from counts starts processors : List ℕ) (k : ℕ) : Type 0 where
+  pub has-start : getD from k 0 < length starts
+  pub has-duration : getD from k 0 < length durations
+  pub has-processor : getD from k 0 < length processors
+  pub on-processor : getD processors (getD from k 0) 0 < 16
+  pub in-time : getD starts (getD from k 0) 0 + getD durations (getD from k 0) 0 ≤ 460000000
+  pub few-messages : getD counts k 0 ≤ 1000
+
 module _ (durations from to counts : List ℕ) (costs : List (List ℕ)) (starts processors : List ℕ) where
   -- the time of edge k's messages to processor P, and when they are there
   unfoldable pub messageAt : ℕ → ℕ → ℕ

@@ -19,9 +19,10 @@ use Rattle.etf.specs.Laws.Back.{walk-enough}
 use Rattle.schedule.specs.declared.Covered.the-variants.{Cover}
 use Rattle.schedule.specs.Plan.{startOf, processorOf}
 use Rattle.schedule.specs.Pass.{most, InArrays, Room, Ran}
-use Rattle.schedule.specs.CoverPass.{FirstMost, Scheduled, IdleBefore, reachInto, MovesBack, Moves, alongBack, HoldsPlan}
+use Rattle.schedule.specs.CoverPass.{FirstMost, Scheduled, IdleBefore, Sender, reachInto, MovesBack, Moves, alongBack, HoldsPlan}
 use Rattle.schedule.specs.Laws.Given.{given, held-tasks}
 use Rattle.schedule.specs.Laws.Filled.{filled-at, filled-length}
+use Rattle.schedule.specs.Laws.Checked.{edge-fits}
 use Rattle.schedule.specs.Laws.Short.{scheduled, no-short, latest-short}
 use Rattle.schedule.specs.Laws.Moved.{stops-there, goes-along, last-is}
 
@@ -45,16 +46,34 @@ module _ {platform : Platform} {m l : ℕ} {durations from to counts : List ℕ}
   pub scheduled-on : Scheduled m durations starts processors n
   scheduled-on = rw e (scheduled A H)
 
+-- each edge comes from a task of that schedule
+pub sender : {platform : Platform} {m l n : ℕ} {durations from to counts starts processors : List ℕ} {costs : List (List ℕ)}
+    → InArrays platform m l durations from to counts costs → Scheduled m durations starts processors n → (k : ℕ) → k < l
+    → Sender durations from counts starts processors k
+sender A S k h =
+    let z = edge-fits A k h in
+    record {
+      has-start = omega (arith, z .0, S .has-starts);
+      has-duration = omega (arith, z .0, S .has-durations);
+      has-processor = omega (arith, z .0, S .has-processors);
+      on-processor = omega (arith, S .on-processor _ (z .0), S .few-processors);
+      in-time = S .in-time _ (z .0);
+      few-messages = z .2;
+    }
+
 module _ {platform : Platform} {m l : ℕ} {durations from to counts : List ℕ} {costs : List (List ℕ)} (A : InArrays platform m l durations from to counts costs)
     {starts processors : List ℕ} (H : HoldsPlan (instance (heldJob platform m l durations from to counts)) m starts processors)
     {n : ℕ} (same : n ≡ platform .processors) {through back′ time : List ℕ}
     (idle-on : (T : ℕ) → T < m → IdleBefore m durations starts processors n (getD starts T 0) (getD through T 0))
-    (M : Moves m l durations from to counts costs starts processors through back′ time) where
+    (M : Moves 256 l durations from to counts costs starts processors through back′ time) where
   abbrev I : Instance
   I = instance (heldJob platform m l durations from to counts)
 
   abbrev ps : List Placement
   ps = planned I
+
+  few : m ≤ 256
+  few = omega (arith, held-tasks A, given A .few-tasks)
 
   idle : (T : ℕ) → T < m → IdleBefore m durations starts processors (platform .processors) (getD starts T 0) (getD through T 0)
   idle T b = rw (← same) (idle-on T b)
@@ -70,7 +89,7 @@ module _ {platform : Platform} {m l : ℕ} {durations from to counts : List ℕ}
   unfolding back bind
   none-short T b e =
       let s = no-short A H T b (subst (λ (P : ℕ). IdleBefore m durations starts processors (platform .processors) (getD starts T 0) P) e (idle T b)) in
-      stays (rw s) (M .stays T b (omega (arith, e)))
+      stays (rw s) (M .stays T (omega (arith, few)) (omega (arith, e)))
 
   -- where one is: along an edge, or there is no edge
   at-short : (T P : ℕ) → T < m → P < 16 → IdleBefore m durations starts processors (platform .processors) (getD starts T 0) P
@@ -94,7 +113,7 @@ module _ {platform : Platform} {m l : ℕ} {durations from to counts : List ℕ}
     where
       go : (16 ≤ getD through T 0) ⊎ (getD through T 0 < 16) → BackAt T
       go (inl h) = none-short T b (omega (arith, h, idle T b .to-most))
-      go (inr h) = at-short T (getD through T 0) b h (idle T b) (M .moves T b h)
+      go (inr h) = at-short T (getD through T 0) b h (idle T b) (M .moves T (omega (arith, few)) h)
 
   -- the moves go down, and none takes long
   pub goes-down : {last : ℕ} → last < m → (T : ℕ) → T ≤ last → getD back′ T 0 < 256 → (getD back′ T 0 < T) × (getD time T 0 ≤ 800000)
@@ -103,9 +122,6 @@ module _ {platform : Platform} {m l : ℕ} {durations from to counts : List ℕ}
       go : BackAt T → (getD back′ T 0 < T) × (getD time T 0 ≤ 800000)
       go (stays e z) = absurd (omega arith)
       go (goes w e f d t u) = (d, u)
-
-  few : m ≤ 256
-  few = omega (arith, held-tasks A, given A .few-tasks)
 
   -- move by move, the arrays give what the walk adds
   along-is : (k T : ℕ) → T < m → alongBack back′ time k T ≡ walk I ps k T
