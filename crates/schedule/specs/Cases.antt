@@ -1,5 +1,5 @@
--- The calls on inputs of document 01: its case A, and the small inputs of the refusal table for 9 to 13, held to the definitions by computing them.
-use mathlib.Core.Option.{orElse}
+-- The calls on inputs of document 01: its cases A and H, and the small inputs of the refusal table for 9 to 13, held to the definitions by computing them.
+use mathlib.Core.Option.{orElse, bind}
 use mathlib.Core.Path.{_≡_, refl}
 use mathlib.Core.List.{List, [], _∷_, _++_, map, flatMap}
 use Prim.Native.Nat.{ℕ}
@@ -13,11 +13,15 @@ use Rattle.etf.specs.Instance.{duration, into, messageTime}
 use Rattle.etf.specs.Schedule.{placed, placementOf, messageTimeTo, arrival, end, scheduleOf}
 use Rattle.etf.specs.Topology.{hops, cost}
 use Rattle.etf.specs.Rule.{atMost, move, settle, nextMoment, free, finished, ready, pair, pairs, choice, complete, round, run, planned}
+use Rattle.etf.specs.Cover.{running, busy, idle, someIdle, latestIdleTick, lowestIdle, later, latestInto, back, walk, lastTask, cover}
+use Rattle.etf.specs.Dearest.{greatestCost, dearestTo, dearest}
 use Rattle.etf.specs.Checker.{firstAnswer, misplaced, overlap, early, check}
 use Rattle.etf.specs.OfJob.{instance}
 use Rattle.schedule.specs.declared.Planned.the-variants.{Plan, Refused}
+use Rattle.schedule.specs.declared.Covered.the-variants.{Cover, Refused as NotCovered}
 use Rattle.schedule.specs.declared.Checked.the-variants.{Yes, Refused as NotChecked}
 use Rattle.schedule.specs.Plan.{called, filled, scratchAt, planAccepted, startOf, processorOf, planFor, planCall}
+use Rattle.schedule.specs.Cover.{covered, coverAccepted, coverFor, coverCall}
 use Rattle.schedule.specs.Check.{checkOf, checkedAs, checkFor, checkCall}
 use Rattle.schedule.specs.PlanBytes.{returned, taskBytes, planBytes, processorIn, startIn, planBytesFor, planBytesCall, numberOf, checkBytesFor, checkBytesCall}
 
@@ -38,6 +42,10 @@ job-a = record {
   tasks = 4 ∷ 3 ∷ 2 ∷ [];
   edges = record { from = 0; to = 2; count = 1 } ∷ record { from = 1; to = 2; count = 3 } ∷ [];
 }
+
+-- 01: the file of case H
+abbrev file-h : List ℕ
+file-h = 1 ∷ 2 ∷ 0 ∷ 5 ∷ (step 3 ++ (step 2 ++ (step 2 ++ (3 ∷ 0 ∷ 1 ∷ 1 ∷ 0 ∷ 3 ∷ 0 ∷ 2 ∷ 1 ∷ 0 ∷ 4 ∷ []))))
 
 -- two steps of five ticks; the same with a link of one message
 abbrev apart : List ℕ
@@ -65,6 +73,14 @@ pub cases-hold :
     × (planCall apart (7 ∷ []) (7 ∷ 7 ∷ []) (8 ∷ []) ≡ called (Refused 9) (7 ∷ []) (7 ∷ 7 ∷ []) (8 ∷ []))
     × (planCall apart (7 ∷ 7 ∷ []) (7 ∷ []) (8 ∷ []) ≡ called (Refused 9) (7 ∷ 7 ∷ []) (7 ∷ []) (8 ∷ []))
     × (planCall apart (7 ∷ 7 ∷ []) (7 ∷ 7 ∷ []) (8 ∷ []) ≡ called (Refused 9) (7 ∷ 7 ∷ []) (7 ∷ 7 ∷ []) (8 ∷ []))
+    -- the cover call: C and the dearest chain, the slices as the planner leaves them; 9 for each slice, and the reader's number
+    × (coverCall file-a (7 ∷ 7 ∷ 7 ∷ 8 ∷ []) (7 ∷ 7 ∷ 7 ∷ []) (replicate 4096 7) .answer ≡ Cover 6 6)
+    × (coverCall file-a (7 ∷ 7 ∷ 7 ∷ 8 ∷ []) (7 ∷ 7 ∷ 7 ∷ []) (replicate 4096 7) .starts ≡ 0 ∷ 0 ∷ 6 ∷ 8 ∷ [])
+    × (coverCall file-h (7 ∷ 7 ∷ 7 ∷ []) (7 ∷ 7 ∷ 7 ∷ []) (replicate 4096 7) .answer ≡ Cover 5 5)
+    × (coverCall apart (7 ∷ []) (7 ∷ 7 ∷ []) (8 ∷ []) ≡ covered (NotCovered 9) (7 ∷ []) (7 ∷ 7 ∷ []) (8 ∷ []))
+    × (coverCall apart (7 ∷ 7 ∷ []) (7 ∷ []) (8 ∷ []) ≡ covered (NotCovered 9) (7 ∷ 7 ∷ []) (7 ∷ []) (8 ∷ []))
+    × (coverCall apart (7 ∷ 7 ∷ []) (7 ∷ 7 ∷ []) (8 ∷ []) ≡ covered (NotCovered 9) (7 ∷ 7 ∷ []) (7 ∷ 7 ∷ []) (8 ∷ []))
+    × (coverCall (1 ∷ 2 ∷ 0 ∷ []) (7 ∷ []) [] [] ≡ covered (NotCovered 1) (7 ∷ []) [] [])
     -- the checker: 9 for each slice; places past m are not read
     × (checkCall apart (0 ∷ []) (0 ∷ 1 ∷ []) ≡ NotChecked 9)
     × (checkCall apart (0 ∷ 0 ∷ []) (0 ∷ []) ≡ NotChecked 9)
@@ -84,5 +100,5 @@ pub cases-hold :
     × (checkBytesCall linked (at 0 0 ++ at 1 6) ≡ 13)
     × (checkBytesCall linked (at 0 0 ++ at 1 7) ≡ 0)
     × (checkBytesCall (9 ∷ []) [] ≡ 2)
-unfolding planCall planFor planAccepted filled scratchAt checkCall checkFor checkedAs checkOf planBytesCall planBytesFor planBytes taskBytes bytes startOf processorOf checkBytesCall checkBytesFor numberOf processorIn startIn number readJob blank records judged after kindOf bodyLength stands noRack full inRange platformInRange durationInRange countInRange endsRight joins inOrder aboveLast rises added platformIn durationIn edgeIn flatMap upto any all filter greatest keep best duration into messageTime placed placementOf messageTimeTo arrival end scheduleOf hops cost atMost move settle nextMoment free finished ready pair pairs choice complete round run planned firstAnswer misplaced overlap early check instance orElse
-cases-hold = (refl, refl, refl, refl, refl, refl, refl, refl, refl, refl, refl, refl, refl, refl, refl, refl, refl, refl, refl, refl, refl, refl, refl)
+unfolding planCall planFor planAccepted coverCall coverFor coverAccepted filled scratchAt checkCall checkFor checkedAs checkOf planBytesCall planBytesFor planBytes taskBytes bytes startOf processorOf checkBytesCall checkBytesFor numberOf processorIn startIn number readJob blank records judged after kindOf bodyLength stands noRack full inRange platformInRange durationInRange countInRange endsRight joins inOrder aboveLast rises added platformIn durationIn edgeIn flatMap upto any all filter greatest keep best duration into messageTime placed placementOf messageTimeTo arrival end scheduleOf hops cost atMost move settle nextMoment free finished ready pair pairs choice complete round run planned running busy idle someIdle latestIdleTick lowestIdle later latestInto back walk lastTask cover greatestCost dearestTo dearest firstAnswer misplaced overlap early check instance orElse bind
+cases-hold = (refl, refl, refl, refl, refl, refl, refl, refl, refl, refl, refl, refl, refl, refl, refl, refl, refl, refl, refl, refl, refl, refl, refl, refl, refl, refl, refl, refl, refl, refl)
