@@ -223,16 +223,16 @@ module _ {platform : Platform} {m l : ℕ} {durations from to counts : List ℕ}
     -- ---- the moves back
 
     -- the walk stops at a task with no edge to it
-    pub stops-there : (T P back time : ℕ) → T < m → P < platform .processors → MovesBack durations from to counts costs starts processors l T P back time
-        → most l (reachInto durations from to counts costs starts processors T P) ≡ 0 → latestInto I ps T P ≡ none
-    stops-there T P back time h p M z = none-into P p T z
+    pub stops-there : (T P : ℕ) → P < platform .processors → most l (reachInto durations from to counts costs starts processors T P) ≡ 0
+        → latestInto I ps T P ≡ none
+    stops-there T P p z = none-into P p T z
 
     -- else it goes back along the edge that the arrays give
-    pub goes-along : (T P back time : ℕ) → T < m → P < platform .processors → MovesBack durations from to counts costs starts processors l T P back time
+    pub goes-along : (T P back time : ℕ) → P < platform .processors → MovesBack durations from to counts costs starts processors l T P back time
         → 0 < most l (reachInto durations from to counts costs starts processors T P)
         → (e : Edge) × (latestInto I ps T P ≡ some e) × (back ≡ e .from) × (back < T) × (time ≡ messageTimeTo I ps P e) × (time ≤ 800000)
     unfolding edgeHeld messageAt
-    goes-along T P back time h p M z =
+    goes-along T P back time p M z =
         let k = M .edge in
         let b = M .is-first .below z in
         let g = M .goes z in

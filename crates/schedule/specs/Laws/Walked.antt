@@ -102,10 +102,10 @@ module _ {platform : Platform} {m l : ℕ} {durations from to counts : List ℕ}
       go (inl z) =
           let s = latest-short A H T P b h i in
           let w : most l (reachInto durations from to counts costs starts processors T P) ≡ 0 = omega (arith, z) in
-          stays (rw (s .1, s .2, stops-there A H T P _ _ b (i .short h .below) B w)) (B .stops w)
+          stays (rw (s .1, s .2, stops-there A H T P (i .short h .below) w)) (B .stops w)
       go (inr z) =
           let s = latest-short A H T P b h i in
-          let w = goes-along A H T P _ _ b (i .short h .below) B z in
+          let w = goes-along A H T P _ _ (i .short h .below) B z in
           goes (record { edge = w .0; through = P }) (rw (s .1, s .2, w .1)) (w .2) (w .3) (w .4) (w .5)
 
   back-at : (T : ℕ) → T < m → BackAt T
