@@ -32,14 +32,28 @@ use Rattle.demands.specs.Laws.Kept.{slices-hold, same-slices, measured, 
 
 -- ---- 00: "The plan is the one that Algorithm ETF of Hwang, Chow, Anger and Lee gives with document 01's tie rule .."
 
--- the number of tasks, the end, and the start and the processor of each task, as the planner's call leaves them
-pub plan-is-etf : (file starts processors scratch : List ℕ) (m E : ℕ) → planCall file starts processors scratch .answer ≡ Plan m E →
-    (j : Job) × (readJob file ≡ accepted j) × (m ≡ tasks (instance j)) × (E ≡ end (instance j) (planned (instance j)))
-    × ((T : ℕ) → T < m → (getD (planCall file starts processors scratch .starts) T 0 ≡ placementOf (planned (instance j)) T .start)
-    × (getD (planCall file starts processors scratch .processors) T 0 ≡ placementOf (planned (instance j)) T .processor))
+-- the plan of a file as the planning rule gives it: m tasks, the end E, and the start and the processor of each task
+pub record ByTheRule (file : List ℕ) (m E : ℕ) (start processor : ℕ → ℕ) : Type 0 where
+  pub job : Job
+  pub of-file : readJob file ≡ accepted job
+  pub tasks-are : m ≡ tasks (instance job)
+  pub end-is : E ≡ end (instance job) (planned (instance job))
+  pub starts-are : (T : ℕ) → T < m → start T ≡ placementOf (planned (instance job)) T .start
+  pub processors-are : (T : ℕ) → T < m → processor T ≡ placementOf (planned (instance job)) T .processor
+
+-- is what the planner's call reports and leaves in the slices
+pub plan-is-etf : (file starts processors scratch : List ℕ) (m E : ℕ) → planCall file starts processors scratch .answer ≡ Plan m E
+    → ByTheRule file m E (λ T. getD (planCall file starts processors scratch .starts) T 0) (λ T. getD (planCall file starts processors scratch .processors) T 0)
 plan-is-etf file starts processors scratch m E h =
     let P = planned-as file starts processors scratch m E h in
-    (P .job, P .says, P .tasks-are, P .end-is, slices-hold P)
+    record {
+      job = P .job;
+      of-file = P .says;
+      tasks-are = P .tasks-are;
+      end-is = P .end-is;
+      starts-are = λ T b. slices-hold P T b .0;
+      processors-are = λ T b. slices-hold P T b .1;
+    }
 
 -- and as the call from C leaves them in the plan's bytes
 pub bytes-are-etf : (file plan : List ℕ) → planBytesCall file plan .number ≡ 0 →
@@ -52,15 +66,29 @@ bytes-are-etf file plan h =
 
 -- ---- 00: ".. and the cover C is the one found by document 01's walk."
 
--- the walk begins with the last task and adds up to C; D is the dearest chain: no chain of the job's edges is dearer, and one is as dear
-pub cover-is-walk : (file starts processors scratch : List ℕ) (C D : ℕ) → coverCall file starts processors scratch .answer ≡ Cover C D →
-    (j : Job) × (readJob file ≡ accepted j) × (C ≡ cover (instance j)) × CoverWalk (instance j)
-    × (D ≡ dearest (instance j)) × ((es : List Edge) → Chain (instance j) es → price (instance j) es ≤ D)
-    × ((es : List Edge) × Chain (instance j) es × (price (instance j) es ≡ D))
+-- C and D of a file: the walk begins with the last task and adds up to C; no chain of the job's edges is dearer than D, and one is as dear
+pub record ByTheWalk (file : List ℕ) (C D : ℕ) : Type 0 where
+  pub job : Job
+  pub of-file : readJob file ≡ accepted job
+  pub cover-is : C ≡ cover (instance job)
+  pub walk : CoverWalk (instance job)
+  pub dearest-is : D ≡ dearest (instance job)
+  pub none-dearer : (es : List Edge) → Chain (instance job) es → price (instance job) es ≤ D
+  pub one-as-dear : (es : List Edge) × Chain (instance job) es × (price (instance job) es ≡ D)
+
+pub cover-is-walk : (file starts processors scratch : List ℕ) (C D : ℕ) → coverCall file starts processors scratch .answer ≡ Cover C D → ByTheWalk file C D
 cover-is-walk file starts processors scratch C D h =
     let Q = covered-as file starts processors scratch C D h in
     let M = measured Q in
-    (Q .job, Q .says, Q .cover-is, M .walk-is, Q .dearest-is, M .no-chain-dearer, M .a-chain-as-dear)
+    record {
+      job = Q .job;
+      of-file = Q .says;
+      cover-is = Q .cover-is;
+      walk = M .walk-is;
+      dearest-is = Q .dearest-is;
+      none-dearer = M .no-chain-dearer;
+      one-as-dear = M .a-chain-as-dear;
+    }
 
 -- the plan that it measures is the planner's: the slices hold what the planner leaves
 pub cover-leaves-plan : (file starts processors scratch : List ℕ)

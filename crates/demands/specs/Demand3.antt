@@ -19,6 +19,18 @@ use Rattle.schedule.specs.Plan.{planCall}
 use Rattle.schedule.specs.Cover.{coverCall}
 use Rattle.demands.specs.Laws.Calls.{planned-as, covered-as, one-job}
 
+-- what is promised of the numbers E, C and D that the calls report for a file
+pub record Promised (file : List ℕ) (E C D : ℕ) : Type 0 where
+  -- the file is that of a job
+  pub job : Job
+  pub of-file : readJob file ≡ accepted job
+  -- for every ideal schedule of the job (01: a rival plan), whose messages take no time and whose starts are any natural numbers; F is its makespan
+  pub end-within : (R : Ideal (instance job))
+      → job .platform .processors * E ≤ (2 * job .platform .processors - 1) * makespan (instance job) R + job .platform .processors * C
+  pub cover-within : C ≤ D
+  -- and there is an ideal schedule
+  pub some-schedule : Ideal (instance job)
+
 -- 00: "Whatever job is accepted, and whatever plan a rival makes for it on the same n boards: if our plan ends at E, as the planner reports, and his
 -- greatest finish is F, then n times E is at most (2n - 1) times F plus n times C, where C is the cover of our plan, as the cover call reports it; and C
 -- is at most the dearest chain of messages in the job, reported beside it."
@@ -27,25 +39,23 @@ pub worst-case : (file : List ℕ) (m E C D : ℕ)
     → (starts processors scratch : List ℕ) → planCall file starts processors scratch .answer ≡ Plan m E
     -- the cover call on it reports C and D, with any slices
     → (starts₂ processors₂ scratch₂ : List ℕ) → coverCall file starts₂ processors₂ scratch₂ .answer ≡ Cover C D
-    -- the file is that of a job
-    → (j : Job) × (readJob file ≡ accepted j)
-    -- for which every ideal schedule (01: a rival plan), whose messages take no time and whose starts are any numbers, keeps the bound
-    × ((R : Ideal (instance j)) → j .platform .processors * E ≤ (2 * j .platform .processors - 1) * makespan (instance j) R + j .platform .processors * C)
-    -- and there is such a schedule
-    × Ideal (instance j)
-    × (C ≤ D)
+    → Promised file E C D
 unfolding instance
 worst-case file m E C D starts processors scratch p starts₂ processors₂ scratch₂ c =
     let P = planned-as file starts processors scratch m E p in
     let Q = covered-as file starts₂ processors₂ scratch₂ C D c in
     let same = one-job (Q .says) (P .says) in
-    let b = bounds (P .job) (P .says) (P .end-is) (Q .cover-is ∙ ap (λ (i : Job). cover (instance i)) same) (Q .dearest-is ∙ ap (λ (i : Job). dearest (instance i)) same) in
-    (P .job, P .says, b .0, b .1, b .2)
+    bounds (P .job) (P .says) (P .end-is) (Q .cover-is ∙ ap (λ (i : Job). cover (instance i)) same) (Q .dearest-is ∙ ap (λ (i : Job). dearest (instance i)) same)
   where
     bounds : (j : Job) → readJob file ≡ accepted j → E ≡ end (instance j) (planned (instance j)) → C ≡ cover (instance j) → D ≡ dearest (instance j)
-        → ((R : Ideal (instance j)) → j .platform .processors * E ≤ (2 * j .platform .processors - 1) * makespan (instance j) R + j .platform .processors * C)
-        × Ideal (instance j) × (C ≤ D)
+        → Promised file E C D
     bounds j a e c d =
         let W = well-formed j (accepted-job file j a) in
         let ideal = some-ideal (instance j) W .0 in
-        ((λ R. rw (e, c) (within (instance j) W R .end-within)), ideal, rw (c, d) (within (instance j) W ideal .cover-within))
+        record {
+          job = j;
+          of-file = a;
+          end-within = λ R. rw (e, c) (within (instance j) W R .end-within);
+          cover-within = rw (c, d) (within (instance j) W ideal .cover-within);
+          some-schedule = ideal;
+        }
