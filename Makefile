@@ -4,8 +4,8 @@
 # make vectors      makes the cases of crates/vectors again
 # make definitions  holds the definitions of crate etf to the reference planner on random jobs: SEED=.. JOBS=..
 # make host         runs the C host over the static library of the planner and the checker
-# make differential holds the static library to the reference planner on random jobs and plans: SEED=.. JOBS=..
-# make bench        times reader, writer, planner and checker against plain Rust ones, and measures the stack
+# make differential holds planner, checker and cover call to the reference planner on random jobs and plans: SEED=.. JOBS=..
+# make bench        times reader, writer, planner, checker and cover call against plain Rust ones, and measures the stack
 # make clean        removes what was made
 
 need = @command -v $(1) >/dev/null 2>&1 || { echo "$(1) is not on the path: $(2)"; exit 2; }
@@ -36,22 +36,22 @@ host: target/staticlib/libschedule.a
 	$(need-cc)
 	@tests/c_host/run
 
-differential: target/staticlib/libschedule.a
+differential: target/staticlib/libschedule.a target/staticlib/libtiming.a
 	$(need-cc)
 	$(need-python)
 	@python3 tests/differential/differential.py seed=$(SEED) jobs=$(JOBS)
 
-bench: target/staticlib/libtiming.a target/staticlib/libschedule.a
+bench: target/staticlib/libschedule.a target/staticlib/libtiming.a
 	$(need-rust)
 	$(need-cc)
 	@rustc --edition 2021 -O -C target-cpu=x86-64 -C codegen-units=1 \
 		-L native=target/staticlib -l static=timing -l static=schedule -o target/bench bench/main.rs
 	@target/bench crates/vectors/stdin
 
-# A library is proved and written again where a file of its crates is newer.
+# A library is proved and written again where a file of its crates is newer; `timing` uses `schedule`.
 sources = crates.txt $(shell find $(1) -name '*.rt' -o -name '*.antt')
-target/staticlib/libtiming.a: $(call sources,crates/job crates/timing)
 target/staticlib/libschedule.a: $(call sources,crates/job crates/etf crates/schedule)
+target/staticlib/libtiming.a: target/staticlib/libschedule.a $(call sources,crates/timing)
 target/staticlib/lib%.a:
 	$(need-rt)
 	@rt staticlib $*

@@ -1,4 +1,4 @@
-//! The jobs that planner and checker are timed on, in families: 256 tasks on 16 processors.
+//! The jobs that planner, checker and cover call are timed on, in families: 256 tasks on 16 processors.
 use std::collections::BTreeSet;
 
 use crate::dice::Dice;
@@ -116,7 +116,21 @@ fn worst() -> Vec<u8> {
     .file()
 }
 
-pub fn families() -> [Family; 9] {
+/// The job for which the cover call takes longest beside the planner's call that is known.
+///
+/// Equal tasks without edges: a task starts at the clock on the first free processor, so the planner looks at one pair to place
+/// it, and the cover still looks at 16 processors for each task. It is not a job whose starts fall as task numbers rise, though
+/// the sort moves most there: to place a task the planner looks at every lower one that is not placed, and those are the moves.
+fn even() -> Vec<u8> {
+    Job {
+        platform: [16, 0, 0],
+        durations: vec![1000; TASKS],
+        edges: Vec::new(),
+    }
+    .file()
+}
+
+pub fn families() -> [Family; 10] {
     [
         family("chain", chain),
         family("fork-join", fork_join),
@@ -126,6 +140,10 @@ pub fn families() -> [Family; 9] {
         family("dense", |dice| some_edges(dice, TASKS, 1024)),
         family("random", |dice| some_edges(dice, TASKS, 400)),
         family("wide", |_| Shape::new()),
+        Family {
+            name: "even",
+            files: vec![even()],
+        },
         Family {
             name: "worst",
             files: vec![worst()],

@@ -1,7 +1,9 @@
-//! Times the job reader and writer, the planner and the checker against plain Rust ones, in one run, and prints the ratios.
-//! First it holds each against the other on the files of the cases of `vectors`, whose path is the first argument, and more.
-//! Last it prints how much stack planner and checker take.
+//! Times the job reader and writer, the planner, the checker and the cover call against plain Rust ones, in one run, and prints the
+//! ratios; then the cover call against our planner. First it holds each against the other on the files of the cases of `vectors`,
+//! whose path is the first argument, and more. Last it prints how much stack planner, checker and cover call take.
 mod checker;
+mod cover;
+mod covers;
 mod dice;
 mod families;
 mod job;
@@ -10,6 +12,7 @@ mod plans;
 mod proved;
 mod reader;
 mod stack;
+mod tally;
 mod timing;
 
 fn main() {
@@ -18,10 +21,16 @@ fn main() {
     let files = reader::files(&cases);
     let families = families::families();
     reader::hold(&files);
-    plans::hold(&files, &families);
+    let jobs = plans::jobs(&files, &families);
+    plans::hold(&jobs);
+    covers::hold(&jobs);
 
-    timing::head();
+    timing::head("ours", "Rust");
     reader::time();
     plans::time(&families);
+    covers::time(&families);
+    timing::head("cover", "plan");
+    covers::time_beside_plan(&families);
     plans::measure_stack(&families);
+    covers::measure_stack(&families);
 }

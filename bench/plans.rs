@@ -3,26 +3,10 @@ use std::hint::black_box;
 
 use crate::dice::Dice;
 use crate::families::{self, Family, Job, TASKS};
+use crate::tally::Tally;
 use crate::{checker, planner, proved, stack, timing};
 
 const RANDOM_JOBS: usize = 400;
-
-/// How often each answer came, by its number.
-struct Tally([usize; 14]);
-
-impl Tally {
-    fn count(&mut self, answer: u32) {
-        self.0[answer as usize] += 1;
-    }
-
-    fn print(&self, what: &str) {
-        let seen = self.0.iter().enumerate().filter(|(_, &often)| often > 0);
-        let seen: Vec<_> = seen
-            .map(|(answer, often)| format!("{answer}: {often}"))
-            .collect();
-        println!("{what} agree; answers {}", seen.join(", "));
-    }
-}
 
 fn some_job(dice: &mut Dice) -> Job {
     let most = dice.one_of(&[4, 20, 256]);
@@ -107,15 +91,21 @@ fn some_jobs(dice: &mut Dice) -> Vec<(Vec<u8>, usize)> {
     jobs
 }
 
-/// Holds planners and checkers against each other: on these files, on each job of the families, and on random jobs.
-pub fn hold(files: &[&[u8]], families: &[Family]) {
-    let dice = &mut Dice::new(2);
-    let (mut planned, mut checked) = (Tally([0; 14]), Tally([0; 14]));
-    let mut jobs = some_jobs(dice);
+/// What planners, checkers and covers are held on: random jobs, these files, and each job of the families. Beside each stands its
+/// number of tasks, or a greater one.
+pub fn jobs(files: &[&[u8]], families: &[Family]) -> Vec<(Vec<u8>, usize)> {
+    let mut jobs = some_jobs(&mut Dice::new(2));
     jobs.extend(files.iter().map(|file| (file.to_vec(), TASKS)));
     let timed = families.iter().flat_map(|family| &family.files);
     jobs.extend(timed.map(|file| (file.clone(), TASKS)));
-    for (file, tasks) in &jobs {
+    jobs
+}
+
+/// Holds planners and checkers against each other.
+pub fn hold(jobs: &[(Vec<u8>, usize)]) {
+    let dice = &mut Dice::new(3);
+    let (mut planned, mut checked) = (Tally::new(), Tally::new());
+    for (file, tasks) in jobs {
         let mut plan = hold_planners(file, *tasks, &mut planned);
         hold_checkers(file, &plan, &mut checked);
         alter(dice, &mut plan);
@@ -173,7 +163,13 @@ pub fn measure_stack(families: &[Family]) {
         let most = files.map(|file| {
             let mut plan = vec![0; 5 * TASKS];
             proved::plan(file, &mut plan);
-            stack::depth(function, file, &mut plan)
+            let arguments = [
+                file.as_ptr() as usize,
+                file.len(),
+                plan.as_mut_ptr() as usize,
+                plan.len(),
+            ];
+            stack::depth(function, &arguments)
         });
         println!("{name} takes {} bytes of stack", most.max().unwrap_or(0));
     }

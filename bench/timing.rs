@@ -63,32 +63,34 @@ fn times(mut rounds: Vec<f64>) -> Times {
     }
 }
 
-/// The times of ours and of Rust's, which take turns; a call is told how many went before it in its round.
-pub fn timed(mut ours: impl FnMut(usize), mut rust: impl FnMut(usize)) -> [Times; 2] {
-    let calls = calls_in_a_round(&mut ours);
+/// The times of two functions, which take turns; a call is told how many went before it in its round.
+pub fn timed(mut one: impl FnMut(usize), mut other: impl FnMut(usize)) -> [Times; 2] {
+    let calls = calls_in_a_round(&mut one);
     let (mut a, mut b) = (Vec::new(), Vec::new());
     for _ in 0..ROUNDS {
-        a.push(round(calls, &mut ours));
-        b.push(round(calls, &mut rust));
+        a.push(round(calls, &mut one));
+        b.push(round(calls, &mut other));
     }
     [times(a), times(b)]
 }
 
-pub fn head() {
+pub fn head(one: &str, other: &str) {
     println!(
         "{:32} {:>24}   {:>24}",
-        "ns a call", "median: ours, Rust, ratio", "least: ours, Rust, ratio"
+        "ns a call",
+        format!("median: {one}, {other}, ratio"),
+        format!("least: {one}, {other}, ratio")
     );
 }
 
-pub fn report(what: &str, [ours, rust]: [Times; 2]) {
+pub fn report(what: &str, [one, other]: [Times; 2]) {
     println!(
         "{what:32} {:8.0} {:8.0} {:6.2}   {:8.0} {:8.0} {:6.2}",
-        ours.median,
-        rust.median,
-        ours.median / rust.median,
-        ours.least,
-        rust.least,
-        ours.least / rust.least
+        one.median,
+        other.median,
+        one.median / other.median,
+        one.least,
+        other.least,
+        one.least / other.least
     );
 }

@@ -1,12 +1,15 @@
 #!/usr/bin/env python3
-"""Holds the two calls of libschedule.a to the reference planner, tests/reference/etf.py, on random jobs and plans.
+"""Holds the two calls of libschedule.a and the cover call of libtiming.a to the reference planner, tests/reference/etf.py, on
+random jobs and plans; the cover call also on the files among the cases of crate vectors.
 
-    differential.py [seed=N] [jobs=N] [only=N] [library=FILE]
+    differential.py [seed=N] [jobs=N] [only=N] [library=FILE] [timing=FILE]
 
 A random seed, which is printed, and 5,000 jobs if not told. A difference prints the seed, the job's number and its bytes, and
-ends the program; only=N runs that job alone. library=FILE takes another archive, to see that a wrong one is caught.
+ends the program; only=N runs that job alone, jobs=0 the cases alone. library=FILE takes another archive for planner and checker,
+timing=FILE another for the cover call, to see that a wrong one is caught.
 """
 import random
+import struct
 import sys
 from collections import Counter
 from pathlib import Path
@@ -17,21 +20,28 @@ sys.dont_write_bytecode = True
 import etf  # noqa: E402
 import library  # noqa: E402
 from jobs import some_file  # noqa: E402
-from make_vectors import Dice  # noqa: E402
+from make_vectors import STDIN, Dice  # noqa: E402
 from plans import as_bytes, as_plan, handed_in  # noqa: E402
 
-ARCHIVE = "target/staticlib/libschedule.a"
+ARCHIVES = {"library": "target/staticlib/libschedule.a", "timing": "target/staticlib/libtiming.a"}
+SCRATCH = 4096
 
 
 class Differs(Exception):
     """The library does not do what the reference says."""
 
 
+def as_words(numbers):
+    """The bytes of numbers of 32 bits."""
+    return struct.pack(f"<{len(numbers)}I", *numbers)
+
+
 class File:
-    """A job's bytes and what the reference says of them: a refusal's number, or 0, the job and its plan."""
+    """A job's bytes and what the reference says of them: a refusal's number, or 0, the job, its plan and what the cover call
+    writes to the front of each slice."""
 
     def __init__(self, data):
-        self.data, self.refusal, self.job, self.plan = data, 0, None, []
+        self.data, self.refusal, self.job, self.plan, self.covered = data, 0, None, [], []
         try:
             self.job = etf.read(data)
         except etf.Refused as refused:
@@ -39,22 +49,42 @@ class File:
             return
         planned = etf.plan(self.job)
         self.plan = list(zip(planned.board, planned.start))
+        self.covered = [as_words(planned.start), bytes(planned.board), as_words(planned.arrival),
+                        as_words([etf.cover(self.job, planned), etf.dearest(self.job)])]
 
     def answer(self, room):
         """The answer as far as the job and the plan's length go."""
         return self.refusal or (9 if room < 5 * len(self.plan) else 0)
 
+    def cover_answer(self, starts, processors, scratch, output):
+        """The answer of the cover call by the places of its slices."""
+        if output != 2:
+            return 9
+        return self.refusal or (9 if min(starts, processors) < len(self.plan) or scratch < SCRATCH else 0)
+
+
+def some_rooms(dice, m):
+    """Places of starts, processors, scratch and output: just enough, more, then too few in one slice after the other. The output
+    has two places, no more."""
+    enough = [m, m, SCRATCH, 2]
+    yield enough
+    yield [m + dice.between(1, 9), m + dice.between(1, 9), SCRATCH + dice.between(1, 9), 2]
+    for slot, room in enumerate(enough):
+        yield enough[:slot] + [dice.one_of([0, room - 1, dice.below(room)])] + enough[slot + 1 :]
+    yield [m, m, SCRATCH, dice.between(3, 9)]
+
 
 class Held:
     """Calls that agree so far, and how often each answer came."""
 
-    def __init__(self, entries):
-        self.entries, self.plan_answers, self.check_answers = entries, Counter(), Counter()
+    def __init__(self, schedule, timing):
+        self.schedule, self.timing = schedule, timing
+        self.plan_answers, self.check_answers, self.cover_answers = Counter(), Counter(), Counter()
 
     def plan(self, file, room, fill):
         due = file.answer(room)
         written = as_bytes(file.plan) if due == 0 else b""
-        answer, after = self.entries.plan(file.data, room, fill)
+        answer, after = self.schedule.plan(file.data, room, fill)
         if answer != due:
             raise Differs(f"kelvrist_plan with {room} bytes returns {answer}, the reference says {due}")
         if after != written + bytes([fill]) * (room - len(written)):
@@ -66,12 +96,31 @@ class Held:
         if due == 0:
             plan = as_plan(handed, len(file.plan))
             due = etf.check(file.job, [p for p, _ in plan], [start for _, start in plan])
-        answer = self.entries.check(file.data, handed, fill)
+        answer = self.schedule.check(file.data, handed, fill)
         if answer != due:
             raise Differs(f"kelvrist_check of the plan [{handed.hex()}] returns {answer}, the reference says {due}")
         self.check_answers[answer] += 1
 
-    def file(self, dice, file):
+    def cover(self, file, rooms, fill):
+        due = file.cover_answer(*rooms)
+        written = file.covered if due == 0 else [b""] * len(rooms)
+        answer, after = self.timing.cover(file.data, rooms, fill)
+        if answer != due:
+            raise Differs(f"timing_cover with {rooms} places returns {answer}, the reference says {due}")
+        for (name, width), now, front in zip(self.timing.SLICES.items(), after, written):
+            left = front + bytes([fill]) * (len(now) - len(front))
+            if now != left:
+                at = next(at for at in range(0, len(now), width) if now[at : at + width] != left[at : at + width])
+                found, told = (etf.number(data[at : at + width]) for data in (now, left))
+                raise Differs(f"timing_cover with {rooms} places returns {answer} and leaves {found} at place {at // width} of the {name}, "
+                              f"the reference says {told}")
+        self.cover_answers[answer] += 1
+
+    def covers(self, dice, file):
+        for rooms in some_rooms(dice, len(file.plan) or dice.between(1, 256)):
+            self.cover(file, rooms, dice.below(256))
+
+    def plans(self, dice, file):
         need = 5 * len(file.plan)
         for room in (need, need + dice.between(1, 9), dice.one_of([0, max(0, need - 1), dice.below(need + 1), 1280])):
             self.plan(file, room, dice.below(256))
@@ -83,12 +132,23 @@ class Held:
             self.check(file, handed, dice.below(256))
 
 
+def case_files(cases):
+    """The files among the cases of crate vectors: a case is a kind byte, r for a file, 2 bytes for the length, and as many."""
+    at = 0
+    while at < len(cases):
+        body = at + 3
+        end = body + etf.number(cases[at + 1 : body])
+        if cases[at] == ord("r"):
+            yield cases[body:end]
+        at = end
+
+
 def told(words):
     """The words of the command line, by name."""
-    given = {"seed": "", "jobs": "", "only": "", "library": ""}
+    given = {"seed": "", "jobs": "", "only": "", "library": "", "timing": ""}
     for word in words:
         name, _, value = word.partition("=")
-        if name not in given or name != "library" and value and not value.isdigit():
+        if name not in given or name not in ARCHIVES and value and not value.isdigit():
             sys.exit(__doc__)
         given[name] = value
     return given
@@ -98,25 +158,36 @@ def tally(answers):
     return ", ".join(f"{a}: {answers[a]}" for a in range(14) if answers[a])
 
 
+def calls(kind, name, given):
+    archive = Path(given[name]) if given[name] else TOP / ARCHIVES[name]
+    return library.load(kind, archive, TOP / "target" / "differential")
+
+
 def main(words):
     given = told(words)
     seed = int(given["seed"] or random.randrange(10**6))
     numbers = [int(given["only"])] if given["only"] else range(int(given["jobs"] or 5000))
-    print(f"differential: seed {seed}, {len(numbers)} jobs", flush=True)
-    archive = Path(given["library"]) if given["library"] else TOP / ARCHIVE
-    held = Held(library.load(archive, TOP / "target" / "differential"))
-    for number in numbers:
-        dice = Dice(seed * 2**32 + number)
-        data = some_file(dice)
-        try:
-            held.file(dice, File(data))
-        except (Differs, library.Altered) as trouble:
-            print(f"FAILED: seed {seed}, job {number}: {trouble}\njob [{data.hex()}]\nto run it again: seed={seed} only={number}")
-            return 1
-    print(f"kelvrist_plan answered {tally(held.plan_answers)}")
-    print(f"kelvrist_check answered {tally(held.check_answers)}")
-    calls = sum(held.plan_answers.values()) + sum(held.check_answers.values())
-    print(f"differential: {len(numbers)} jobs, {calls} calls, 0 differ")
+    cases = [] if given["only"] else list(case_files(STDIN.read_bytes()))
+    what = f"{len(numbers)} jobs and {len(cases)} files of cases"
+    print(f"differential: seed {seed}, {what}", flush=True)
+    held = Held(calls(library.Schedule, "library", given), calls(library.Timing, "timing", given))
+    try:
+        for number, data in enumerate(cases):
+            name, again = f"file {number} of the cases", "jobs=0"
+            held.covers(Dice(seed * 2**32 + 2**31 + number), File(data))
+        for number in numbers:
+            dice = Dice(seed * 2**32 + number)
+            name, again, data = f"job {number}", f"only={number}", some_file(dice)
+            file = File(data)
+            held.plans(dice, file)
+            held.covers(dice, file)
+    except (Differs, library.Altered) as trouble:
+        print(f"FAILED: seed {seed}, {name}: {trouble}\njob [{data.hex()}]\nto run it again: seed={seed} {again}")
+        return 1
+    answers = {"kelvrist_plan": held.plan_answers, "kelvrist_check": held.check_answers, "timing_cover": held.cover_answers}
+    for name, tallied in answers.items():
+        print(f"{name} answered {tally(tallied)}")
+    print(f"differential: {what}, {sum(sum(tallied.values()) for tallied in answers.values())} calls, 0 differ")
     return 0
 
 

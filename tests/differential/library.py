@@ -1,4 +1,4 @@
-"""The two calls of libschedule.a, by ctypes, with guard bytes around what is lent to them."""
+"""The two calls of libschedule.a and the cover call of libtiming.a, by ctypes, with guard bytes around what is lent to them."""
 import ctypes
 import shutil
 import subprocess
@@ -12,31 +12,36 @@ class Altered(Exception):
 
 
 class Lent:
-    """Bytes that are lent to a call, between guard bytes."""
+    """Bytes that are lent to a call, between guard bytes; `width` bytes are a place of the slice."""
 
-    def __init__(self, name, data, guard):
-        self.name, self.length = name, len(data)
+    def __init__(self, name, data, guard, width=1):
+        self.name, self.width = name, width
         self.before = bytes([guard]) * GUARD + data + bytes([guard]) * GUARD
         self.now = ctypes.create_string_buffer(self.before, len(self.before))
 
     def words(self):
-        return ctypes.c_void_p(ctypes.addressof(self.now) + GUARD), ctypes.c_size_t(self.length)
+        places = (len(self.before) - 2 * GUARD) // self.width
+        return ctypes.c_void_p(ctypes.addressof(self.now) + GUARD), ctypes.c_size_t(places)
 
     def back(self, call, may_alter):
         """The bytes after the call."""
         now = self.now.raw
-        inside = range(GUARD, GUARD + self.length) if may_alter else ()
-        if now != self.before:
-            for at, (old, new) in enumerate(zip(self.before, now)):
-                if old != new and at not in inside:
-                    raise Altered(f"{call} altered the byte at place {at - GUARD} of the {self.name}: {old:02x} to {new:02x}")
-        return now[GUARD : GUARD + self.length]
+        inside = now[GUARD:-GUARD]
+        due = self.before[:GUARD] + inside + self.before[-GUARD:] if may_alter else self.before
+        if now != due:
+            at = next(at for at in range(len(now)) if now[at] != due[at])
+            raise Altered(f"{call} altered the byte at place {at - GUARD} of the {self.name}: {due[at]:02x} to {now[at]:02x}")
+        return inside
 
 
-class Library:
-    def __init__(self, path):
-        self.entries = ctypes.CDLL(str(path))
-        for entry in (self.entries.kelvrist_plan, self.entries.kelvrist_check):
+class Schedule:
+    """The planner and the checker from C."""
+
+    CRATE = "schedule"
+
+    def __init__(self, entries):
+        self.entries = entries
+        for entry in (entries.kelvrist_plan, entries.kelvrist_check):
             entry.restype = ctypes.c_uint32
 
     def plan(self, data, room, fill):
@@ -54,14 +59,34 @@ class Library:
         return answer
 
 
-def load(archive, folder):
-    """The library of an archive, by way of a shared library that is made in the folder."""
+class Timing:
+    """The cover call."""
+
+    CRATE = "timing"
+    SLICES = {"starts": 4, "processors": 1, "scratch": 4, "output": 4}  # and the bytes of a place
+
+    def __init__(self, entries):
+        self.entries = entries
+        entries.timing_cover.restype = ctypes.c_uint32
+
+    def cover(self, data, rooms, fill):
+        """The answer, and the four slices afterwards; they had so many places of fill bytes before."""
+        job = Lent("job", data, fill)
+        slices = [Lent(name, bytes([fill]) * (width * room), fill, width)
+                  for (name, width), room in zip(self.SLICES.items(), rooms)]
+        answer = self.entries.timing_cover(*job.words(), *(word for lent in slices for word in lent.words()))
+        job.back("timing_cover", False)
+        return answer, [lent.back("timing_cover", True) for lent in slices]
+
+
+def load(kind, archive, folder):
+    """The calls of an archive, by way of a shared library that is made in the folder."""
     if not shutil.which("cc"):
         sys.exit("cc is not on the path: install a C compiler")
     if not archive.is_file():
-        sys.exit(f"{archive} is not there: `rt staticlib schedule` makes it")
+        sys.exit(f"{archive} is not there: `rt staticlib {kind.CRATE}` makes it")
     folder.mkdir(parents=True, exist_ok=True)
-    shared = folder / "libschedule.so"
+    shared = folder / f"lib{kind.CRATE}.so"
     subprocess.run(["cc", "-shared", "-fPIC", "-O2", "-o", str(shared), "-Wl,--whole-archive", str(archive),
                     "-Wl,--no-whole-archive"], check=True)
-    return Library(shared)
+    return kind(ctypes.CDLL(str(shared)))

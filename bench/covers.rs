@@ -1,0 +1,149 @@
+//! The cover call: held against the plain Rust one, then timed against it and against our planner; and the stack that ours takes.
+use std::hint::black_box;
+
+use crate::families::{Family, TASKS};
+use crate::tally::Tally;
+use crate::{cover, proved, stack, timing};
+
+/// Places of the scratch.
+const ARRIVALS: usize = 16 * TASKS;
+
+/// Places of the slices for any job: starts, processors, scratch and output.
+const ROOMS: [usize; 4] = [TASKS, TASKS, ARRIVALS, 2];
+
+type Cover = fn(&[u8], &mut [u32], &mut [u8], &mut [u32], &mut [u32]) -> u32;
+
+/// What is lent to a cover call beside the file.
+#[derive(PartialEq)]
+struct Lent {
+    starts: Vec<u32>,
+    processors: Vec<u8>,
+    scratch: Vec<u32>,
+    out: Vec<u32>,
+}
+
+impl Lent {
+    fn new([starts, processors, scratch, out]: [usize; 4]) -> Self {
+        Lent {
+            starts: vec![0xEEEE_EEEE; starts],
+            processors: vec![0xEE; processors],
+            scratch: vec![0xEEEE_EEEE; scratch],
+            out: vec![0xEEEE_EEEE; out],
+        }
+    }
+
+    fn to(&mut self, cover: Cover, file: &[u8]) -> u32 {
+        cover(
+            file,
+            &mut self.starts,
+            &mut self.processors,
+            &mut self.scratch,
+            &mut self.out,
+        )
+    }
+}
+
+/// The same number and slices from both, for slices that are long enough and, each in turn, too short.
+fn hold_covers(file: &[u8], tasks: usize, tally: &mut Tally) {
+    for rooms in [
+        [tasks, tasks, ARRIVALS, 2],
+        [tasks + 3, tasks + 2, ARRIVALS + 5, 2],
+        [tasks - 1, tasks, ARRIVALS, 2],
+        [tasks, tasks - 1, ARRIVALS, 2],
+        [tasks, tasks, ARRIVALS - 1, 2],
+        [tasks, tasks, ARRIVALS, 1],
+        [tasks, tasks, ARRIVALS, 3],
+        [0, 0, 0, 0],
+    ] {
+        let (mut ours, mut rust) = (Lent::new(rooms), Lent::new(rooms));
+        let answer = ours.to(proved::cover, file);
+        assert_eq!(
+            answer,
+            rust.to(cover::cover, file),
+            "{rooms:?} places, job {file:?}"
+        );
+        assert!(
+            ours == rust,
+            "the slices differ: {rooms:?} places, job {file:?}"
+        );
+        tally.count(answer);
+    }
+}
+
+/// Holds the two against each other on these files; beside each stands its number of tasks, or a greater one.
+pub fn hold(jobs: &[(Vec<u8>, usize)]) {
+    let mut tally = Tally::new();
+    for (file, tasks) in jobs {
+        hold_covers(file, *tasks, &mut tally);
+    }
+    tally.print("both covers");
+}
+
+fn time_covers(family: &Family) {
+    let files = &family.files;
+    let (mut ours, mut rust) = (Lent::new(ROOMS), Lent::new(ROOMS));
+    let times = timing::timed(
+        |i| {
+            let file = &files[i % files.len()];
+            black_box(black_box(&mut ours).to(proved::cover, black_box(file)));
+        },
+        |i| {
+            let file = &files[i % files.len()];
+            black_box(black_box(&mut rust).to(cover::cover, black_box(file)));
+        },
+    );
+    timing::report(&format!("cover {}", family.name), times);
+}
+
+fn time_beside(family: &Family) {
+    let files = &family.files;
+    let (mut lent, mut plan) = (Lent::new(ROOMS), [0; 5 * TASKS]);
+    let times = timing::timed(
+        |i| {
+            let file = &files[i % files.len()];
+            black_box(black_box(&mut lent).to(proved::cover, black_box(file)));
+        },
+        |i| {
+            let file = &files[i % files.len()];
+            black_box(proved::plan(black_box(file), black_box(&mut plan)));
+        },
+    );
+    timing::report(&format!("cover/plan {}", family.name), times);
+}
+
+pub fn time(families: &[Family]) {
+    families.iter().for_each(time_covers);
+}
+
+/// Times our cover call, which plans and measures, against our planner's call.
+pub fn time_beside_plan(families: &[Family]) {
+    families.iter().for_each(time_beside);
+}
+
+/// The most stack that our call takes on the jobs of the families.
+pub fn measure_stack(families: &[Family]) {
+    let files = families.iter().flat_map(|family| &family.files);
+    let most = files.map(|file| {
+        let (mut lent, mut known) = (Lent::new(ROOMS), Lent::new(ROOMS));
+        let arguments = [
+            file.as_ptr() as usize,
+            file.len(),
+            lent.starts.as_mut_ptr() as usize,
+            lent.starts.len(),
+            lent.processors.as_mut_ptr() as usize,
+            lent.processors.len(),
+            lent.scratch.as_mut_ptr() as usize,
+            lent.scratch.len(),
+            lent.out.as_mut_ptr() as usize,
+            lent.out.len(),
+        ];
+        let depth = stack::depth(proved::cover_address(), &arguments);
+        known.to(proved::cover, file);
+        assert!(lent == known, "the call went wrong: job {file:?}");
+        depth
+    });
+    println!(
+        "timing_cover takes {} bytes of stack",
+        most.max().unwrap_or(0)
+    );
+}
