@@ -71,6 +71,11 @@ module _ (m : ℕ) (durations starts processors : List ℕ) where
     pub short : P < 16 → LatestShort n s P
     pub none-short : P ≡ 16 → (Q t : ℕ) → Q < n → t < s → Running Q t
 
+  -- for each task that has predecessors that processor; 16 for a task without
+  pub record Through (n : ℕ) (predecessors through : List ℕ) : Type 0 where
+    pub idle : (T : ℕ) → T < m → 0 < getD predecessors T 0 → IdleBefore n (getD starts T 0) (getD through T 0)
+    pub none : (T : ℕ) → T < m → getD predecessors T 0 ≡ 0 → getD through T 0 ≡ 16
+
 -- ---- the moves back
 
 -- the task that edge k comes from has its places in the arrays, and no time on the way passes 32 bits

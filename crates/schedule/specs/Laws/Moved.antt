@@ -17,7 +17,7 @@ use Rattle.job.specs.Job.{Edge, Job}
 use Rattle.job.specs.Accepted.{Before}
 use Rattle.job.specs.Write.{edgeHeld, heldJob}
 use Rattle.job.specs.Laws.Values.{length-values}
-use Rattle.etf.specs.Lists.{_∈_, upto, keep, best}
+use Rattle.etf.specs.Lists.{_∈_, here, upto, keep, best}
 use Rattle.etf.specs.Instance.{Instance, tasks, duration, into, messageTime}
 use Rattle.etf.specs.Schedule.{Placement, placementOf, finish, messageTimeTo, reach}
 use Rattle.etf.specs.Rule.{planned}
@@ -25,9 +25,10 @@ use Rattle.etf.specs.OfJob.{instance}
 use Rattle.etf.specs.Cover.{later, latestInto, lastTask}
 use Rattle.etf.specs.Laws.Tests.{not-both, fails, both, or-left, or-right, pick-yes, pick-no, eq→eqb, le-or-lt}
 use Rattle.etf.specs.Laws.Lists.{place, length-upto, upto-at, Order, Best, nothing, found, best-is, by-greatest, by-greatest-then-least}
+use Rattle.etf.specs.Laws.Sums.{one-if, one-if-yes, sum-ge}
 use Rattle.etf.specs.Laws.Planned.{home, on-processor}
 use Rattle.schedule.specs.Plan.{startOf, processorOf}
-use Rattle.schedule.specs.Pass.{most, InArrays}
+use Rattle.schedule.specs.Pass.{most, edgesTo, InArrays}
 use Rattle.schedule.specs.CoverPass.{FirstMost, messageAt, reachAt, reachInto, MovesBack, HoldsPlan}
 use Rattle.schedule.specs.Laws.Lists.{value-at}
 use Rattle.schedule.specs.Laws.Most.{most-ge}
@@ -50,6 +51,12 @@ best-first {X} beats O d (x ∷ xs) zero h unbeaten before = ap some (go (best b
 best-first beats O d (x ∷ xs) (suc i) h unbeaten before =
     rw (best-first beats O d xs i (omega arith) (λ k b. unbeaten (suc k) (omega arith)) (λ k b. before (suc k) (omega arith)))
     (ap some (pick-yes (beats (getD xs i d) x) (getD xs i d) x (before 0 (omega arith))))
+
+-- of no members none is the best
+best-none : {A : Type 0} (beats : A → A → Bool) (l : List A) → ((a : A) → a ∈ l → ⊥) → best beats l ≡ none
+unfolding best
+best-none beats [] f = refl
+best-none beats (x ∷ xs) f = absurd (f x (here refl))
 
 -- a choice between x and 0 is above 0 only where the test passes
 pick-over : (b : Bool) (x : ℕ) → 0 < pick b x 0 → Holds b
@@ -84,6 +91,19 @@ module _ {platform : Platform} {m l : ℕ} {durations from to counts : List ℕ}
       go (inl u) q r = absurd (omega (arith, u, given A .rising i k (omega arith) (omega arith)))
       go (inr u) (inl q) r = let z : i ≡ k = omega arith in rw z (u .1)
       go (inr u) (inr q) r = omega (arith, u .1, r q (omega (arith, u .0)))
+
+  -- no edge goes to a task that has no predecessors
+  no-edge : (T : ℕ) → edgesTo to l T ≡ 0 → (d : Edge) → d ∈ into I T → ⊥
+  unfolding edgesTo
+  no-edge T z d h =
+      let w = edge-place (given A) T d h in
+      let one : one-if (eqb (getD to (w .0) 0) T) ≡ 1 = one-if-yes (eqb (getD to (w .0) 0) T) (eq→eqb (getD to (w .0) 0) T (w .3)) in
+      omega (arith, z, one, sum-ge l (λ i. one-if (eqb (getD to i 0) T)) (w .0) (w .1))
+
+  -- so of none the messages are the latest
+  pub no-edge-no-latest : (T P : ℕ) (ps : List Placement) → edgesTo to l T ≡ 0 → latestInto I ps T P ≡ none
+  unfolding latestInto
+  no-edge-no-latest T P ps z = best-none (later I ps P) (into I T) (no-edge T z)
 
   module _ {starts processors : List ℕ} (H : HoldsPlan I m starts processors) where
     -- the planner's schedule

@@ -1,7 +1,7 @@
 -- The walk of the planner's schedule, by the arrays: what the moves back from its last task take is the cover.
 use mathlib.Core.Path.{_≡_, refl, ap, _∙_, subst}
 use mathlib.Core.Logic.{_⊎_, inl, inr}
-use mathlib.Core.Option.{none, some, bind}
+use mathlib.Core.Option.{Option, none, some, bind}
 use mathlib.Core.List.{List}
 use Prim.Native.Nat.{ℕ, zero, suc, _+_, _≤_, _<_}
 use native.Mathlib.Omega.{arith}
@@ -10,21 +10,21 @@ use lib.ListN.{getD}
 use Rattle.job.specs.declared.Platform.{Platform}
 use Rattle.job.specs.Write.{heldJob}
 use Rattle.etf.specs.Instance.{Instance, tasks}
-use Rattle.etf.specs.Schedule.{Placement, messageTimeTo}
+use Rattle.etf.specs.Schedule.{Placement, placementOf, messageTimeTo}
 use Rattle.etf.specs.Rule.{planned}
-use Rattle.etf.specs.Cover.{Back, back, walk, cover}
+use Rattle.etf.specs.Cover.{Back, latestIdleTick, lowestIdle, latestInto, back, walk, cover}
 use Rattle.etf.specs.OfJob.{instance}
 use Rattle.etf.specs.Laws.Tests.{le-or-lt}
 use Rattle.etf.specs.Laws.Back.{walk-enough}
 use Rattle.schedule.specs.declared.Covered.the-variants.{Cover}
 use Rattle.schedule.specs.Plan.{startOf, processorOf}
-use Rattle.schedule.specs.Pass.{most, InArrays, Room, Ran}
-use Rattle.schedule.specs.CoverPass.{FirstMost, Scheduled, IdleBefore, Sender, reachInto, MovesBack, Moves, alongBack, HoldsPlan}
+use Rattle.schedule.specs.Pass.{most, edgesTo, InArrays, Room, Ran}
+use Rattle.schedule.specs.CoverPass.{FirstMost, Scheduled, IdleBefore, Through, Sender, reachInto, MovesBack, Moves, alongBack, HoldsPlan}
 use Rattle.schedule.specs.Laws.Given.{given, held-tasks}
 use Rattle.schedule.specs.Laws.Filled.{filled-at, filled-length}
 use Rattle.schedule.specs.Laws.Checked.{edge-fits}
 use Rattle.schedule.specs.Laws.Short.{scheduled, no-short, latest-short}
-use Rattle.schedule.specs.Laws.Moved.{stops-there, goes-along, last-is}
+use Rattle.schedule.specs.Laws.Moved.{no-edge-no-latest, stops-there, goes-along, last-is}
 
 -- an answer of two numbers
 pub answers : {C D x y : ℕ} → C ≡ x → D ≡ y → Cover C D ≡ Cover x y
@@ -63,8 +63,8 @@ sender A S k h =
 
 module _ {platform : Platform} {m l : ℕ} {durations from to counts : List ℕ} {costs : List (List ℕ)} (A : InArrays platform m l durations from to counts costs)
     {starts processors : List ℕ} (H : HoldsPlan (instance (heldJob platform m l durations from to counts)) m starts processors)
-    {n : ℕ} (same : n ≡ platform .processors) {through back′ time : List ℕ}
-    (idle-on : (T : ℕ) → T < m → IdleBefore m durations starts processors n (getD starts T 0) (getD through T 0))
+    {n : ℕ} (same : n ≡ platform .processors) {predecessors through back′ time : List ℕ}
+    (counted : (T : ℕ) → T < 256 → getD predecessors T 0 ≡ edgesTo to l T) (R : Through m durations starts processors n predecessors through)
     (M : Moves 256 l durations from to counts costs starts processors through back′ time) where
   abbrev I : Instance
   I = instance (heldJob platform m l durations from to counts)
@@ -75,8 +75,9 @@ module _ {platform : Platform} {m l : ℕ} {durations from to counts : List ℕ}
   few : m ≤ 256
   few = omega (arith, held-tasks A, given A .few-tasks)
 
-  idle : (T : ℕ) → T < m → IdleBefore m durations starts processors (platform .processors) (getD starts T 0) (getD through T 0)
-  idle T b = rw (← same) (idle-on T b)
+  -- a task that has predecessors
+  idle : (T : ℕ) → T < m → 0 < getD predecessors T 0 → IdleBefore m durations starts processors (platform .processors) (getD starts T 0) (getD through T 0)
+  idle T b p = rw (← same) (R .idle T b p)
 
   -- the move back from a task, by the walk and by the arrays
   data BackAt (T : ℕ) : Type 0 where
@@ -84,11 +85,27 @@ module _ {platform : Platform} {m l : ℕ} {durations from to counts : List ℕ}
     goes : (b : Back) → back I ps T ≡ some b → getD back′ T 0 ≡ b .edge .from → getD back′ T 0 < T
         → getD time T 0 ≡ messageTimeTo I ps (b .through) (b .edge) → getD time T 0 ≤ 800000 → BackAt T
 
-  -- where no tick is short
-  none-short : (T : ℕ) → T < m → getD through T 0 ≡ 16 → BackAt T
+  -- where the task has no predecessor
+  no-predecessor : (T : ℕ) → T < m → getD predecessors T 0 ≡ 0 → BackAt T
   unfolding back bind
-  none-short T b e =
-      let s = no-short A H T b (subst (λ (P : ℕ). IdleBefore m durations starts processors (platform .processors) (getD starts T 0) P) e (idle T b)) in
+  no-predecessor T b p = stays (go (latestIdleTick I ps (placementOf ps T .start))) (M .stays T (omega (arith, few)) (omega (arith, R .none T b p)))
+    where
+      none-into : (P : ℕ) → latestInto I ps T P ≡ none
+      none-into P = no-edge-no-latest A T P ps (omega (arith, counted T (omega (arith, few)), p))
+
+      through-any : (o : Option ℕ) → bind {B = Back} o (λ P. bind (latestInto I ps T P) (λ e. some (record { edge = e; through = P }))) ≡ none
+      through-any none = refl
+      through-any (some P) = rw (none-into P)
+
+      go : (o : Option ℕ) → bind {B = Back} o (λ t. bind (lowestIdle I ps t) (λ P. bind (latestInto I ps T P) (λ e. some (record { edge = e; through = P })))) ≡ none
+      go none = refl
+      go (some t) = through-any (lowestIdle I ps t)
+
+  -- where no tick is short
+  none-short : (T : ℕ) → T < m → 0 < getD predecessors T 0 → getD through T 0 ≡ 16 → BackAt T
+  unfolding back bind
+  none-short T b p e =
+      let s = no-short A H T b (subst (λ (P : ℕ). IdleBefore m durations starts processors (platform .processors) (getD starts T 0) P) e (idle T b p)) in
       stays (rw s) (M .stays T (omega (arith, few)) (omega (arith, e)))
 
   -- where one is: along an edge, or there is no edge
@@ -109,11 +126,12 @@ module _ {platform : Platform} {m l : ℕ} {durations from to counts : List ℕ}
           goes (record { edge = w .0; through = P }) (rw (s .1, s .2, w .1)) (w .2) (w .3) (w .4) (w .5)
 
   back-at : (T : ℕ) → T < m → BackAt T
-  back-at T b = go (le-or-lt 16 (getD through T 0))
+  back-at T b = go (le-or-lt (getD predecessors T 0) 0) (le-or-lt 16 (getD through T 0))
     where
-      go : (16 ≤ getD through T 0) ⊎ (getD through T 0 < 16) → BackAt T
-      go (inl h) = none-short T b (omega (arith, h, idle T b .to-most))
-      go (inr h) = at-short T (getD through T 0) b h (idle T b) (M .moves T (omega (arith, few)) h)
+      go : (getD predecessors T 0 ≤ 0) ⊎ (0 < getD predecessors T 0) → (16 ≤ getD through T 0) ⊎ (getD through T 0 < 16) → BackAt T
+      go (inl p) z = no-predecessor T b (omega arith)
+      go (inr p) (inl h) = none-short T b p (omega (arith, h, idle T b p .to-most))
+      go (inr p) (inr h) = at-short T (getD through T 0) b h (idle T b p) (M .moves T (omega (arith, few)) h)
 
   -- the moves go down, and none takes long
   pub goes-down : {last : ℕ} → last < m → (T : ℕ) → T ≤ last → getD back′ T 0 < 256 → (getD back′ T 0 < T) × (getD time T 0 ≤ 800000)
