@@ -188,6 +188,10 @@ pub record Ran (I : Instance) (m r : ℕ) (starts starts′ processors processor
   pub processors-are : processors′ ≡ filled (processorOf I) m processors
   pub arrivals-are : arrivals′ ≡ filled (scratchAt I) 4096 arrivals
 
+-- one of three slices of these lengths is too short for m tasks
+unfoldable pub shortOf : ℕ → ℕ → ℕ → ℕ → Bool
+shortOf m starts processors scratch = ltb starts m || (ltb processors m || ltb scratch 4096)
+
 -- the number of a refused file
 abbrev pub verdictNumber : Verdict → ℕ
 verdictNumber (Counts m l) = 0

@@ -20,7 +20,7 @@ ghost use Rattle.schedule.specs.Plan.{called, filled, planCall};
 ghost use Rattle.schedule.specs.Cover.{covered, coverCall};
 ghost use Rattle.schedule.specs.Check.{checkCall};
 ghost use Rattle.schedule.specs.PlanBytes.{returned, planBytesCall, checkBytesCall};
-ghost use Rattle.schedule.specs.Pass.{InArrays, Room, verdictNumber};
+ghost use Rattle.schedule.specs.Pass.{InArrays, Room, shortOf, verdictNumber};
 ghost use Rattle.schedule.specs.CoverPass.{Measured};
 
 // What planning a job gives: the number of its tasks and the plan's end, or the refusal's number.
@@ -51,6 +51,19 @@ fn refusal(verdict: Verdict) -> u8
     }
 }
 
+// Whether a slice is too short, by the lengths of the three: fewer starts or processors than tasks, or fewer than 4,096 places of scratch.
+fn too_short(tasks: usize, starts: usize, processors: usize, scratch: usize) -> bool
+    ensures { λ r. ⌜ r ≡ shortOf tasks starts processors scratch ⌝ }
+{
+    if starts < tasks {
+        return true;
+    }
+    if processors < tasks {
+        return true;
+    }
+    scratch < 4096
+}
+
 // Sets the first 4,096 places to 0.
 fn clear(scratch: &mut [u32])
     requires { ⌜ 4096 ≤ length (now scratch) ⌝ }
@@ -72,13 +85,7 @@ pub fn plan(file: &[u8], starts: &mut [u32], processors: &mut [u8], scratch: &mu
     let Verdict::Counts { tasks, edges } = verdict else {
         return Planned::Refused(refusal(verdict));
     };
-    if starts.len() < tasks {
-        return Planned::Refused(9);
-    }
-    if processors.len() < tasks {
-        return Planned::Refused(9);
-    }
-    if scratch.len() < 4096 {
+    if too_short(tasks, starts.len(), processors.len(), scratch.len()) {
         return Planned::Refused(9);
     }
     clear(scratch);
@@ -155,13 +162,7 @@ pub fn cover(file: &[u8], starts: &mut [u32], processors: &mut [u8], scratch: &m
     let Verdict::Counts { tasks, edges } = verdict else {
         return Covered::Refused(refusal(verdict));
     };
-    if starts.len() < tasks {
-        return Covered::Refused(9);
-    }
-    if processors.len() < tasks {
-        return Covered::Refused(9);
-    }
-    if scratch.len() < 4096 {
+    if too_short(tasks, starts.len(), processors.len(), scratch.len()) {
         return Covered::Refused(9);
     }
     clear(scratch);

@@ -1,16 +1,19 @@
 -- Each return of the five entries is its row of the call's definition.
+use mathlib.Core.Bool.{Bool, true, false, _||_}
 use mathlib.Core.Option.{Option, none, some}
 use mathlib.Core.Path.{_≡_, refl, ap, sym, _∙_}
 use mathlib.Core.List.{List, _++_}
 use Prim.Native.Nat.{ℕ, _*_, _≤_, _<_}
 use native.Mathlib.Omega.{arith}
-use borrow.Author.Tests.{lt-ltb, le-ltb}
+use borrow.Author.Tests.{lt-ltb, le-ltb, ltb-false}
+use lib.Dec.{ltb}
 use lib.ListN.{length, getD, drop, replicate, length-replicate}
 use Rattle.job.specs.declared.Verdict.the-variants.{Refused}
 use Rattle.job.specs.declared.Reading.{Reading}
 use Rattle.job.specs.Read.{refused, readJob, readingOf}
 use Rattle.job.specs.Write.{heldJob}
 use Rattle.job.specs.Laws.Lists.{zeros-at}
+use Rattle.job.specs.Laws.Tests.{never}
 use Rattle.etf.specs.Instance.{Instance, tasks}
 use Rattle.etf.specs.Schedule.{scheduleOf}
 use Rattle.etf.specs.Checker.{Because, no-processor, too-late, overlaps, too-early}
@@ -20,11 +23,11 @@ use Rattle.schedule.specs.declared.Planned.the-variants.{Plan, Refused a
 use Rattle.schedule.specs.declared.Covered.{Covered}
 use Rattle.schedule.specs.declared.Covered.the-variants.{Refused as NotCovered}
 use Rattle.schedule.specs.declared.Checked.the-variants.{Yes, Refused as NotChecked}
-use Rattle.schedule.specs.Plan.{called, filled, startOf, processorOf, scratchAt, planAccepted, planFor, planCall}
+use Rattle.schedule.specs.Plan.{called, filled, startOf, processorOf, scratchAt, tooShort, planAccepted, planFor, planCall}
 use Rattle.schedule.specs.Cover.{covered, coverAccepted, coverFor, coverCall}
 use Rattle.schedule.specs.Check.{checkOf, checkedAs, checkFor, checkCall}
 use Rattle.schedule.specs.PlanBytes.{returned, planBytes, processorIn, startIn, planBytesFor, planBytesCall, numberOf, checkBytesFor, checkBytesCall}
-use Rattle.schedule.specs.Pass.{Room, Ran, verdictNumber}
+use Rattle.schedule.specs.Pass.{Room, Ran, shortOf, verdictNumber}
 use Rattle.schedule.specs.CoverPass.{Measured}
 use Rattle.schedule.specs.Laws.Filled.{filled-length, filled-at, filled-filled}
 use Rattle.schedule.specs.Laws.Encoded.{plan-bytes-same, check-of-same}
@@ -54,9 +57,20 @@ no-number (some k) z e = absurd (z (ap some e))
 
 -- ---- room for a plan
 
-pub cleared-room : {m : ℕ} {starts processors : List ℕ} (scratch : List ℕ) {cleared : List ℕ} → m ≤ length starts → m ≤ length processors → 4096 ≤ length scratch
+-- none of the three slices is too short
+pub long-enough : {m a b c : ℕ} {t : Bool} → t ≡ shortOf m a b c → t ≡ false → (m ≤ a) × (m ≤ b) × (4096 ≤ c)
+unfolding shortOf
+long-enough {m} {a} {b} {c} e w = go (ltb a m) refl (ltb b m) refl (ltb c 4096) refl (sym e ∙ w)
+  where
+    go : (x : Bool) → ltb a m ≡ x → (y : Bool) → ltb b m ≡ y → (z : Bool) → ltb c 4096 ≡ z → x || (y || z) ≡ false → (m ≤ a) × (m ≤ b) × (4096 ≤ c)
+    go false p false q false r h = (ltb-false a m p, ltb-false b m q, ltb-false c 4096 r)
+    go true p y q z r h = never (sym h)
+    go false p true q z r h = never (sym h)
+    go false p false q true r h = never (sym h)
+
+pub cleared-room : {m : ℕ} {starts processors : List ℕ} (scratch : List ℕ) {cleared : List ℕ} → (m ≤ length starts) × (m ≤ length processors) × (4096 ≤ length scratch)
     → cleared ≡ filled (λ x. 0) 4096 scratch → Room m starts processors cleared
-cleared-room scratch a b c e = record {
+cleared-room scratch fits e = let a = fits .0 in let b = fits .1 in let c = fits .2 in record {
   for-starts = a;
   for-processors = b;
   for-arrivals = omega (arith, ap length e, filled-length (λ x. 0) 4096 scratch c);
@@ -113,52 +127,42 @@ module _ {file : List ℕ} {x : Reading} {m l : ℕ} (K : Read file x m l) where
   same : H ≡ I
   same = ap instance (K .held)
 
-  module _ {starts processors scratch : List ℕ} where
-    pub plan-no-starts : length starts < m → called (NotPlanned 9) starts processors scratch ≡ planCall file starts processors scratch
-    unfolding planCall planFor
-    plan-no-starts h = rw (K .says) (simp (tasks-is, lt-ltb _ _ h))
+  -- the test of the lengths, as the definitions have it
+  short-is : (starts processors scratch : List ℕ) {t b : Bool} → t ≡ shortOf m (length starts) (length processors) (length scratch) → t ≡ b
+      → tooShort (tasks I) starts processors scratch ≡ b
+  unfolding shortOf
+  short-is starts processors scratch e w = rw tasks-is (sym e ∙ w)
 
-    pub plan-no-processors : m ≤ length starts → length processors < m → called (NotPlanned 9) starts processors scratch ≡ planCall file starts processors scratch
-    unfolding planCall planFor
-    plan-no-processors a h = rw (K .says) (simp (tasks-is, le-ltb _ _ a, lt-ltb _ _ h))
+  pub plan-short : {starts processors scratch : List ℕ} {t : Bool} → t ≡ shortOf m (length starts) (length processors) (length scratch) → t ≡ true
+      → called (NotPlanned 9) starts processors scratch ≡ planCall file starts processors scratch
+  unfolding planCall planFor
+  plan-short {starts} {processors} {scratch} e w = rw (K .says, short-is starts processors scratch e w)
 
-    pub plan-no-scratch : m ≤ length starts → m ≤ length processors → length scratch < 4096
-        → called (NotPlanned 9) starts processors scratch ≡ planCall file starts processors scratch
-    unfolding planCall planFor
-    plan-no-scratch a b h = rw (K .says) (simp (tasks-is, le-ltb _ _ a, le-ltb _ _ b, lt-ltb _ _ h))
-
-  pub plan-done : {starts processors : List ℕ} (scratch : List ℕ) {r : ℕ} {starts′ processors′ cleared scratch′ : List ℕ} → m ≤ length starts → m ≤ length processors → 4096 ≤ length scratch
+  pub plan-done : {starts processors : List ℕ} (scratch : List ℕ) {t : Bool} {r : ℕ} {starts′ processors′ cleared scratch′ : List ℕ}
+      → t ≡ shortOf m (length starts) (length processors) (length scratch) → t ≡ false
       → cleared ≡ filled (λ x. 0) 4096 scratch → Ran H m r starts starts′ processors processors′ cleared scratch′
       → called (Plan m r) starts′ processors′ scratch′ ≡ planCall file starts processors scratch
   unfolding planCall planFor planAccepted
-  plan-done scratch a b c f R =
-      rw (K .says)
-      (simp (tasks-is, le-ltb _ _ a, le-ltb _ _ b, le-ltb _ _ c)
-      (rw (R .end-is, R .starts-are, R .processors-are, R .arrivals-are, f, filled-filled (scratchAt H) (λ x. 0) 4096 scratch c, same)))
+  plan-done {starts} {processors} scratch e w f R =
+      let c = long-enough e w .2 in
+      rw (K .says, short-is starts processors scratch e w)
+      (simp tasks-is (rw (R .end-is, R .starts-are, R .processors-are, R .arrivals-are, f, filled-filled (scratchAt H) (λ x. 0) 4096 scratch c, same)))
 
-  module _ {starts processors scratch : List ℕ} where
-    pub cover-no-starts : length starts < m → covered (NotCovered 9) starts processors scratch ≡ coverCall file starts processors scratch
-    unfolding coverCall coverFor
-    cover-no-starts h = rw (K .says) (simp (tasks-is, lt-ltb _ _ h))
+  pub cover-short : {starts processors scratch : List ℕ} {t : Bool} → t ≡ shortOf m (length starts) (length processors) (length scratch) → t ≡ true
+      → covered (NotCovered 9) starts processors scratch ≡ coverCall file starts processors scratch
+  unfolding coverCall coverFor
+  cover-short {starts} {processors} {scratch} e w = rw (K .says, short-is starts processors scratch e w)
 
-    pub cover-no-processors : m ≤ length starts → length processors < m → covered (NotCovered 9) starts processors scratch ≡ coverCall file starts processors scratch
-    unfolding coverCall coverFor
-    cover-no-processors a h = rw (K .says) (simp (tasks-is, le-ltb _ _ a, lt-ltb _ _ h))
-
-    pub cover-no-scratch : m ≤ length starts → m ≤ length processors → length scratch < 4096
-        → covered (NotCovered 9) starts processors scratch ≡ coverCall file starts processors scratch
-    unfolding coverCall coverFor
-    cover-no-scratch a b h = rw (K .says) (simp (tasks-is, le-ltb _ _ a, le-ltb _ _ b, lt-ltb _ _ h))
-
-  pub cover-done : {starts processors : List ℕ} (scratch : List ℕ) {r : Covered} {starts′ processors′ cleared scratch′ : List ℕ} → m ≤ length starts → m ≤ length processors → 4096 ≤ length scratch
+  pub cover-done : {starts processors : List ℕ} (scratch : List ℕ) {t : Bool} {r : Covered} {starts′ processors′ cleared scratch′ : List ℕ}
+      → t ≡ shortOf m (length starts) (length processors) (length scratch) → t ≡ false
       → cleared ≡ filled (λ x. 0) 4096 scratch → Measured H m r starts starts′ processors processors′ cleared scratch′
       → covered r starts′ processors′ scratch′ ≡ coverCall file starts processors scratch
   unfolding coverCall coverFor coverAccepted
-  cover-done scratch a b c f M =
+  cover-done {starts} {processors} scratch e w f M =
+      let c = long-enough e w .2 in
       let R = M .ran in
-      rw (K .says)
-      (simp (tasks-is, le-ltb _ _ a, le-ltb _ _ b, le-ltb _ _ c)
-      (rw (M .answer-is, R .starts-are, R .processors-are, R .arrivals-are, f, filled-filled (scratchAt H) (λ x. 0) 4096 scratch c, same)))
+      rw (K .says, short-is starts processors scratch e w)
+      (simp tasks-is (rw (M .answer-is, R .starts-are, R .processors-are, R .arrivals-are, f, filled-filled (scratchAt H) (λ x. 0) 4096 scratch c, same)))
 
   module _ (starts processors : List ℕ) where
     pub check-no-starts : length starts < m → NotChecked 9 ≡ checkCall file starts processors
