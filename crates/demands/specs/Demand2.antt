@@ -1,6 +1,6 @@
 -- Demand 2 of the notice: the plan is the planning rule's and C the walk's, the checker accepts exactly the plans that keep the rules, and no file loses anything.
 use mathlib.Core.Logic.{_↔_}
-use mathlib.Core.Path.{_≡_}
+use mathlib.Core.Path.{_≡_, refl}
 use mathlib.Core.List.{List, _++_}
 use Prim.Native.Nat.{ℕ, _*_, _≤_, _<_}
 use lib.ListN.{length, getD, take, drop}
@@ -55,14 +55,15 @@ plan-is-etf file starts processors scratch m E h =
       processors-are = λ T b. slices-hold P T b .1;
     }
 
--- and as the call from C leaves them in the plan's bytes
-pub bytes-are-etf : (file plan : List ℕ) → planBytesCall file plan .number ≡ 0 →
-    (j : Job) × (readJob file ≡ accepted j)
-    × ((T : ℕ) → T < tasks (instance j) → (startIn (planBytesCall file plan .plan) T ≡ placementOf (planned (instance j)) T .start)
-    × (processorIn (planBytesCall file plan .plan) T ≡ placementOf (planned (instance j)) T .processor))
+-- and what the call from C leaves in the plan's bytes
+pub bytes-are-etf : (file plan : List ℕ) → planBytesCall file plan .number ≡ 0
+    → (m E : ℕ) × ByTheRule file m E (startIn (planBytesCall file plan .plan)) (processorIn (planBytesCall file plan .plan))
 bytes-are-etf file plan h =
-    let P = bytes-as file plan h in
-    (P .job, P .says, λ T b. (P .starts-hold T b, P .processors-hold T b))
+    let P = bytes-as file plan h in (
+      tasks (instance (P .job)),
+      end (instance (P .job)) (planned (instance (P .job))),
+      record { job = P .job; of-file = P .says; tasks-are = refl; end-is = refl; starts-are = P .starts-hold; processors-are = P .processors-hold },
+    )
 
 -- ---- 00: ".. and the cover C is the one found by document 01's walk."
 

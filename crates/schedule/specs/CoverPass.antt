@@ -56,7 +56,7 @@ module _ (m : ℕ) (durations starts processors : List ℕ) where
     pub begun : getD starts task 0 ≤ t
     pub unfinished : t < getD starts task 0 + getD durations task 0
 
-  -- tick t is the latest before s in which one of n processors is idle, and P is the lowest that is
+  -- `tick` is the latest before s in which one of n processors is idle, and P is the lowest that is
   pub record LatestShort (n s P : ℕ) : Type 0 where
     pub tick : ℕ
     pub before : tick < s
@@ -109,7 +109,8 @@ module _ (durations from to counts : List ℕ) (costs : List (List ℕ)) (starts
 
 -- the moves back from each of m tasks, through the processors that `through` has
 pub record Moves (m l : ℕ) (durations from to counts : List ℕ) (costs : List (List ℕ)) (starts processors through back time : List ℕ) : Type 0 where
-  pub moves : (T : ℕ) → T < m → getD through T 0 < 16 → MovesBack durations from to counts costs starts processors l T (getD through T 0) (getD back T 0) (getD time T 0)
+  pub moves : (T : ℕ) → T < m → getD through T 0 < 16
+      → MovesBack durations from to counts costs starts processors l T (getD through T 0) (getD back T 0) (getD time T 0)
   pub stays : (T : ℕ) → T < m → 16 ≤ getD through T 0 → getD back T 0 ≡ 256
 
 -- what k moves back from task T take

@@ -36,7 +36,8 @@ module _ (m : ℕ) (starts processors scratch : List ℕ) where
   pub short-or-fits : Short ⊎ Fits
   short-or-fits = go (le-or-lt m (length starts)) (le-or-lt m (length processors)) (le-or-lt 4096 (length scratch))
     where
-      go : (m ≤ length starts) ⊎ (length starts < m) → (m ≤ length processors) ⊎ (length processors < m) → (4096 ≤ length scratch) ⊎ (length scratch < 4096) → Short ⊎ Fits
+      go : (m ≤ length starts) ⊎ (length starts < m) → (m ≤ length processors) ⊎ (length processors < m) → (4096 ≤ length scratch) ⊎ (length scratch < 4096)
+          → Short ⊎ Fits
       go (inr a) b c = inl (inl a)
       go (inl a) (inr b) c = inl (inr (inl b))
       go (inl a) (inl b) (inr c) = inl (inr (inr c))
@@ -45,7 +46,8 @@ module _ (m : ℕ) (starts processors scratch : List ℕ) where
   pub short-true : Short → tooShort m starts processors scratch ≡ true
   short-true s = go (le-or-lt m (length starts)) (le-or-lt m (length processors)) s
     where
-      go : (m ≤ length starts) ⊎ (length starts < m) → (m ≤ length processors) ⊎ (length processors < m) → Short → tooShort m starts processors scratch ≡ true
+      go : (m ≤ length starts) ⊎ (length starts < m) → (m ≤ length processors) ⊎ (length processors < m) → Short
+          → tooShort m starts processors scratch ≡ true
       go (inr a) b s = rw (lt-ltb (length starts) m a)
       go (inl a) (inr b) s = rw (le-ltb (length starts) m a, lt-ltb (length processors) m b)
       go (inl a) (inl b) (inl s) = absurd (omega (arith, a, s))
