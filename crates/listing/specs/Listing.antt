@@ -1,0 +1,90 @@
+-- What program `plan` prints for a job file (01: "Ticks worked out").
+use mathlib.Core.List.{List, [], _∷_, _++_, flatMap}
+use Prim.Native.Nat.{ℕ, zero, suc, _+_, _/_, _%_}
+use Prim.Native.Char.{code}
+use Prim.Native.String.{String, [] as []ᵗ, _∷_ as _∷ᵗ_}
+use lib.Dec.{ltb}
+use lib.ListN.{length, drop}
+use Rattle.job.specs.Number.{pick}
+use Rattle.job.specs.Read.{Answer, accepted, refused, readJob}
+use Rattle.etf.specs.Lists.{upto}
+use Rattle.etf.specs.Instance.{Instance, tasks, duration}
+use Rattle.etf.specs.Schedule.{end}
+use Rattle.etf.specs.Rule.{planned}
+use Rattle.etf.specs.Cover.{cover}
+use Rattle.etf.specs.Dearest.{dearest}
+use Rattle.etf.specs.OfJob.{instance}
+use Rattle.schedule.specs.Plan.{startOf, processorOf}
+
+-- the bytes of a text, in ASCII
+unfoldable pub text : String → List ℕ
+text []ᵗ = []
+text (c ∷ᵗ s) = code c ∷ text s
+
+-- the decimal digits of a number of at most k places, the most significant first and no zeros in front
+unfoldable pub digits : ℕ → ℕ → List ℕ
+digits zero x = []
+digits (suc k) x = pick (ltb x 10) ((48 + x) ∷ []) (digits k (x / 10) ++ ((48 + x % 10) ∷ []))
+
+-- a number in decimal: ten places hold any of 32 bits
+unfoldable pub decimal : ℕ → List ℕ
+decimal x = digits 10 x
+
+-- a number and the byte that follows it
+unfoldable pub field : ℕ → ℕ → List ℕ
+field x next = decimal x ++ (next ∷ [])
+
+abbrev pub space : ℕ
+space = 32
+
+-- 01: "Each line ends in a line feed"
+abbrev pub lineFeed : ℕ
+lineFeed = 10
+
+-- 01: "each after its word and a space"
+unfoldable pub line : List ℕ → ℕ → List ℕ
+line word x = word ++ field x lineFeed
+
+-- 01: "The header has boards, steps, links"
+unfoldable pub header : ℕ → ℕ → ℕ → List ℕ
+header n m l = text "plan " ++ (field n space ++ (field m space ++ field l lineFeed))
+
+-- 01: "Each step line has number, board, start, finish"
+unfoldable pub taskLine : ℕ → ℕ → ℕ → ℕ → List ℕ
+taskLine T P start finish = field T space ++ (field P space ++ (field start space ++ field finish lineFeed))
+
+-- the lines of the first m tasks
+unfoldable pub taskLines : ℕ → (ℕ → ℕ) → (ℕ → ℕ) → (ℕ → ℕ) → List ℕ
+taskLines m processor start time = flatMap (λ T. taskLine T (processor T) (start T) (start T + time T)) (upto m)
+
+-- 01: "Then come the plan's end, C and the dearest chain"
+unfoldable pub figures : ℕ → ℕ → ℕ → List ℕ
+figures E C D = line (text "end ") E ++ (line (text "cover ") C ++ line (text "dearest ") D)
+
+-- the listing of a plan
+unfoldable pub planListing : Instance → List ℕ
+planListing I =
+    header (I .processors) (tasks I) (length (I .edges))
+    ++ (taskLines (tasks I) (processorOf I) (startOf I) (duration I) ++ figures (end I (planned I)) (cover I) (dearest I))
+
+-- 01: "A refusal prints one line, `refused`, a space and its number, nothing else"
+unfoldable pub listingFor : Answer → List ℕ
+listingFor (accepted j) = planListing (instance j)
+listingFor (refused k) = line (text "refused ") k
+
+-- what the program prints for a file
+unfoldable pub listing : List ℕ → List ℕ
+listing file = listingFor (readJob file)
+
+-- what a call returns, the length of the text, and the last content of the buffer
+pub record ListingCall : Type 0 where
+  pub length : ℕ
+  pub buffer : List ℕ
+
+-- a call that returns n and leaves these bytes in the buffer
+abbrev pub listed : ℕ → List ℕ → ListingCall
+listed n buffer = record { length = n; buffer = buffer }
+
+-- the call for a file: the text is put at the front of the buffer, and the rest of it keeps its content
+unfoldable pub listingCall : List ℕ → List ℕ → ListingCall
+listingCall file buffer = listed (length (listing file)) (listing file ++ drop (length (listing file)) buffer)

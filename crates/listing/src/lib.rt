@@ -1,0 +1,140 @@
+// The text that program `plan` prints for a job file (document 01, "Ticks worked out").
+mod number;
+mod put;
+
+use job::Verdict;
+use schedule::Covered;
+use schedule::Planned;
+ghost use mathlib.Core.Path.{_≡_};
+ghost use Prim.Native.Nat.{ℕ, _+_, _*_, _≤_, _<_};
+ghost use lib.ListN.{length, getD};
+ghost use Rattle.listing.specs.Listing.{header as headerOf, taskLine, taskLines, figures as figuresOf, listed, listingCall};
+ghost use Rattle.listing.specs.Pass.{Put, verdictNumber, endIn, coverIn, dearestIn};
+
+// The number of a refused file.
+fn refusal(verdict: Verdict) -> u8
+    ensures { λ r. ⌜ r ≡ verdictNumber verdict ⌝ }
+{
+    match verdict {
+        Verdict::Counts { tasks: _, edges: _ } => 0,
+        Verdict::Refused(number) => number,
+    }
+}
+
+// The end of a plan.
+fn end_in(planned: Planned) -> u32
+    ensures { λ r. ⌜ r ≡ endIn planned ⌝ }
+{
+    match planned {
+        Planned::Plan { tasks: _, end } => end,
+        Planned::Refused(_) => 0,
+    }
+}
+
+// The cover.
+fn cover_in(covered: Covered) -> u32
+    ensures { λ r. ⌜ r ≡ coverIn covered ⌝ }
+{
+    match covered {
+        Covered::Cover { cover, dearest: _ } => cover,
+        Covered::Refused(_) => 0,
+    }
+}
+
+// The dearest chain.
+fn dearest_in(covered: Covered) -> u32
+    ensures { λ r. ⌜ r ≡ dearestIn covered ⌝ }
+{
+    match covered {
+        Covered::Cover { cover: _, dearest } => dearest,
+        Covered::Refused(_) => 0,
+    }
+}
+
+// The first line.
+fn header(out: &mut [u8], processors: u8, tasks: usize, edges: usize) -> usize
+    requires { ⌜ (tasks ≤ 256) × (edges ≤ 1024) × (38 ≤ length (now out)) ⌝ }
+    ensures { λ r. ⌜ Put (now (out .entry)) (now (out .exit)) 0 r (headerOf processors tasks edges) ⌝ }
+{
+    let first = put::word(out, 0, b"plan ");
+    let second = put::field(out, first, number::wide8(processors), b' ');
+    let third = put::field(out, second, tasks as u32, b' ');
+    put::field(out, third, edges as u32, b'\n')
+}
+
+// The line of one task.
+fn task(out: &mut [u8], at: usize, number: u32, processor: u32, start: u32, finish: u32) -> usize
+    requires { ⌜ at + 44 ≤ length (now out) ⌝ }
+    ensures { λ r. ⌜ Put (now (out .entry)) (now (out .exit)) at r (taskLine number processor start finish) ⌝ }
+{
+    let second = put::field(out, at, number, b' ');
+    let third = put::field(out, second, processor, b' ');
+    let fourth = put::field(out, third, start, b' ');
+    put::field(out, fourth, finish, b'\n')
+}
+
+// The lines of the tasks.
+fn lines<'a>(
+    out: &mut [u8],
+    at: usize,
+    tasks: usize,
+    durations: &'a [u32],
+    starts: &'a [u32],
+    processors: &'a [u8],
+) -> usize
+    requires { ⌜ (tasks ≤ 256) × (at + 44 * tasks ≤ length (now out)) ⌝ }
+    requires { ⌜ (tasks ≤ length (now durations)) × (tasks ≤ length (now starts)) × (tasks ≤ length (now processors)) ⌝ }
+    requires { ⌜ ((T : ℕ) → T < tasks → getD (now starts) T 0 + getD (now durations) T 0 < 4294967296) ⌝ }
+    ensures { λ r. ⌜ Put (now (out .entry)) (now (out .exit)) at r (taskLines tasks (λ T. getD (now (processors .entry)) T 0) (λ T. getD (now (starts .entry)) T 0) (λ T. getD (now (durations .entry)) T 0)) ⌝ }
+{
+    let mut t: usize = 0;
+    let mut place = at;
+    while t < tasks {
+        let finish = starts[t] + durations[t];
+        place = task(
+            out,
+            place,
+            t as u32,
+            number::wide8(processors[t]),
+            starts[t],
+            finish,
+        );
+        t += 1;
+    }
+    place
+}
+
+// The last three lines.
+fn figures(out: &mut [u8], at: usize, end: u32, cover: u32, dearest: u32) -> usize
+    requires { ⌜ at + 51 ≤ length (now out) ⌝ }
+    ensures { λ r. ⌜ Put (now (out .entry)) (now (out .exit)) at r (figuresOf end cover dearest) ⌝ }
+{
+    let second = put::line(out, at, b"end ", end);
+    let third = put::line(out, second, b"cover ", cover);
+    put::line(out, third, b"dearest ", dearest)
+}
+
+// Writes the listing of a file's job to the front of `out`, and answers its length (01: what program `plan` prints).
+pub fn write(file: &[u8], out: &mut [u8; 12288]) -> usize
+    ensures { λ r. ⌜ listed r (now (out .exit)) ≡ listingCall (now (file .entry)) (now (out .entry)) ⌝ }
+{
+    let r = job::read(file);
+    let verdict = r.verdict;
+    let Verdict::Counts { tasks, edges } = verdict else {
+        return put::line(out, 0, b"refused ", number::wide8(refusal(verdict)));
+    };
+    let mut starts = [0u32; 256];
+    let mut processors = [0u8; 256];
+    let mut scratch = [0u32; 4096];
+    let covered = schedule::cover(file, &mut starts, &mut processors, &mut scratch);
+    let planned = schedule::plan(file, &mut starts, &mut processors, &mut scratch);
+    let first = header(out, r.platform.processors, tasks, edges);
+    let last = lines(out, first, tasks, &r.durations, &starts, &processors);
+    figures(
+        out,
+        last,
+        end_in(planned),
+        cover_in(covered),
+        dearest_in(covered),
+    )
+}
