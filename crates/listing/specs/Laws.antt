@@ -1,2 +1,4 @@
 pub mod Put
 pub mod Digits
+pub mod Listed
+pub mod Told

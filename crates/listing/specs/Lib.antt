@@ -1,3 +1,5 @@
 pub mod Listing
+pub mod Cases
+pub mod Printed
 pub mod Pass
 pub mod Laws

@@ -55,6 +55,7 @@ fn dearest_in(covered: Covered) -> u32
 fn header(out: &mut [u8], processors: u8, tasks: usize, edges: usize) -> usize
     requires { ⌜ (tasks ≤ 256) × (edges ≤ 1024) × (38 ≤ length (now out)) ⌝ }
     ensures { λ r. ⌜ Put (now (out .entry)) (now (out .exit)) 0 r (headerOf processors tasks edges) ⌝ }
+    ensures { λ r. ⌜ r ≤ 38 ⌝ }
 {
     let first = put::word(out, 0, b"plan ");
     let second = put::field(out, first, number::wide8(processors), b' ');
@@ -66,6 +67,7 @@ fn header(out: &mut [u8], processors: u8, tasks: usize, edges: usize) -> usize
 fn task(out: &mut [u8], at: usize, number: u32, processor: u32, start: u32, finish: u32) -> usize
     requires { ⌜ at + 44 ≤ length (now out) ⌝ }
     ensures { λ r. ⌜ Put (now (out .entry)) (now (out .exit)) at r (taskLine number processor start finish) ⌝ }
+    ensures { λ r. ⌜ r ≤ at + 44 ⌝ }
 {
     let second = put::field(out, at, number, b' ');
     let third = put::field(out, second, processor, b' ');
@@ -86,6 +88,7 @@ fn lines<'a>(
     requires { ⌜ (tasks ≤ length (now durations)) × (tasks ≤ length (now starts)) × (tasks ≤ length (now processors)) ⌝ }
     requires { ⌜ ((T : ℕ) → T < tasks → getD (now starts) T 0 + getD (now durations) T 0 < 4294967296) ⌝ }
     ensures { λ r. ⌜ Put (now (out .entry)) (now (out .exit)) at r (taskLines tasks (λ T. getD (now (processors .entry)) T 0) (λ T. getD (now (starts .entry)) T 0) (λ T. getD (now (durations .entry)) T 0)) ⌝ }
+    ensures { λ r. ⌜ r ≤ at + 44 * tasks ⌝ }
 {
     let mut t: usize = 0;
     let mut place = at;
@@ -108,6 +111,7 @@ fn lines<'a>(
 fn figures(out: &mut [u8], at: usize, end: u32, cover: u32, dearest: u32) -> usize
     requires { ⌜ at + 51 ≤ length (now out) ⌝ }
     ensures { λ r. ⌜ Put (now (out .entry)) (now (out .exit)) at r (figuresOf end cover dearest) ⌝ }
+    ensures { λ r. ⌜ r ≤ at + 51 ⌝ }
 {
     let second = put::line(out, at, b"end ", end);
     let third = put::line(out, second, b"cover ", cover);
@@ -117,6 +121,7 @@ fn figures(out: &mut [u8], at: usize, end: u32, cover: u32, dearest: u32) -> usi
 // Writes the listing of a file's job to the front of `out`, and answers its length (01: what program `plan` prints).
 pub fn write(file: &[u8], out: &mut [u8; 12288]) -> usize
     ensures { λ r. ⌜ listed r (now (out .exit)) ≡ listingCall (now (file .entry)) (now (out .entry)) ⌝ }
+    ensures { λ r. ⌜ r ≤ 12288 ⌝ }
 {
     let r = job::read(file);
     let verdict = r.verdict;

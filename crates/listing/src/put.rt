@@ -38,6 +38,7 @@ fn spell(x: u32, digits: &mut [u8]) -> usize
 pub fn field(out: &mut [u8], at: usize, x: u32, next: u8) -> usize
     requires { ⌜ at + 11 ≤ length (now out) ⌝ }
     ensures { λ r. ⌜ Put (now (out .entry)) (now (out .exit)) at r (fieldOf x next) ⌝ }
+    ensures { λ r. ⌜ r ≤ at + 11 ⌝ }
 {
     let mut digits = [0u8; 10];
     let first = spell(x, &mut digits);
@@ -50,6 +51,7 @@ pub fn field(out: &mut [u8], at: usize, x: u32, next: u8) -> usize
 pub fn line(out: &mut [u8], at: usize, bytes: &[u8], x: u32) -> usize
     requires { ⌜ at + length (now bytes) + 11 ≤ length (now out) ⌝ }
     ensures { λ r. ⌜ Put (now (out .entry)) (now (out .exit)) at r (lineOf (now (bytes .entry)) x) ⌝ }
+    ensures { λ r. ⌜ r ≤ at + length (now (bytes .entry)) + 11 ⌝ }
 {
     let number = word(out, at, bytes);
     field(out, number, x, b'\n')

@@ -39,15 +39,17 @@ unfolding digits
 spelt-more x places zero rest S h = absurd (omega (arith, S .small, h))
 spelt-more x places (suc k) rest S h =
     let d = 48 + rest % 10 in
-    let e : suc k - 1 ≡ k = omega arith in
-    (omega arith, rw e (record {
-      within = omega (arith, S .within);
-      size = length-set places (suc k) d ∙ S .size;
-      small = omega (arith, S .small, pow-step 10 (suc k));
-      says =
-          S .says
-          ∙ rw (le-ltb rest 10 h, append-assoc (digits (suc k) (rest / 10)) (d ∷ []) (drop (suc (suc k)) places), drop-of-set places (suc k) d (omega (arith, S .within, S .size)));
-    }))
+    let e : suc k - 1 ≡ k = omega arith in (
+      omega arith,
+      rw e (record {
+        within = omega (arith, S .within);
+        size = length-set places (suc k) d ∙ S .size;
+        small = omega (arith, S .small, pow-step 10 (suc k));
+        says =
+            S .says
+            ∙ rw (le-ltb rest 10 h, append-assoc (digits (suc k) (rest / 10)) (d ∷ []) (drop (suc (suc k)) places), drop-of-set places (suc k) d (omega (arith, S .within, S .size)));
+      }),
+    )
 
 -- the first digit
 pub spelt-all : (x : ℕ) (places : List ℕ) (at rest : ℕ) → Spelt x places at rest → rest ≤ 9 → drop at (set places at (48 + rest)) ≡ decimal x

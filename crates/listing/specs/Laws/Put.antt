@@ -1,11 +1,13 @@
 -- Texts put one after the other are the text of them all.
-use mathlib.Core.Path.{_≡_, ap, sym, _∙_}
-use mathlib.Core.List.{List, [], _∷_, _++_}
+use mathlib.Core.Path.{_≡_, refl, ap, sym, _∙_}
+use mathlib.Core.List.{List, [], _∷_, _++_, flatMap, append-nil}
 use Prim.Native.Nat.{ℕ, suc, _+_, _≤_, _<_}
 use native.Mathlib.Omega.{arith}
 use lib.ListN.{length, getD, take, set, length-append}
 use lib.Seq.{sets, take-suc, take-all, length-take-le}
-use Rattle.job.specs.Laws.Stored.{sets-append}
+use Rattle.job.specs.Laws.Stored.{sets-append, flat-append}
+use Rattle.etf.specs.Lists.{upto}
+use Rattle.listing.specs.Listing.{taskLine, taskLines}
 use Rattle.listing.specs.Pass.{Put}
 
 pub put-then : {l l′ l″ : List ℕ} {a b c : ℕ} {s t : List ℕ} → Put l l′ a b s → Put l′ l″ b c t → Put l l″ a c (s ++ t)
@@ -29,3 +31,24 @@ word-all out out′ at i bytes h e = record {
   stored = e ∙ ap (sets out at) (take-all i bytes (omega (arith, h)));
   past = omega (arith, h);
 }
+
+-- one byte after a text
+pub put-byte : {l l′ : List ℕ} {a b : ℕ} {s : List ℕ} (x : ℕ) → Put l l′ a b s → Put l (set l′ b x) a (b + 1) (s ++ (x ∷ []))
+put-byte x p = put-then p (record { stored = refl; past = refl })
+
+-- the lines of the tasks, one by one
+module _ (processor start time : ℕ → ℕ) where
+  pub lines-none : (out : List ℕ) (at : ℕ) → Put out out at at (taskLines 0 processor start time)
+  unfolding taskLines upto flatMap
+  lines-none out at = record { stored = refl; past = omega arith }
+
+  abbrev line : ℕ → List ℕ
+  line T = taskLine T (processor T) (start T) (start T + time T)
+
+  pub lines-more : {out out′ out″ : List ℕ} {at place next : ℕ} (t T P s f : ℕ) → Put out out′ at place (taskLines t processor start time)
+      → Put out′ out″ place next (taskLine T P s f) → T ≡ t → P ≡ processor t → s ≡ start t → f ≡ start t + time t → Put out out″ at next (taskLines (t + 1) processor start time)
+  unfolding taskLines upto flatMap
+  lines-more t T P s f p q t-is p-is s-is f-is =
+      let one : t + 1 ≡ suc t = omega arith in
+      let e : flatMap line (upto t) ++ line t ≡ flatMap line (upto t ++ (t ∷ [])) = sym (flat-append line (upto t) (t ∷ []) ∙ ap (λ (b : List ℕ). flatMap line (upto t) ++ b) (append-nil (line t))) in
+      rw (one, ← e) (put-then p (rw (t-is, p-is, s-is, f-is) at q))

@@ -1,0 +1,54 @@
+-- `figures`: three lines.
+use mathlib.Core.List.{List}
+use Prim.Native.Nat.{ℕ}
+use borrow.Author.Needs.{needs}
+use Rattle.listing.specs.Listing.{text, line, figures}
+use Rattle.listing.specs.Pass.{Put}
+use Rattle.listing.specs.Laws.Put.{put-then}
+use Rattle.listing.proofs.figures.Statement.{statement}
+use Rattle.listing.proofs.figures.Tie as tie
+
+whole : {a b c d : List ℕ} {i j k l : ℕ} (E C D : ℕ) → Put a b i j (line (text "end ") E) → Put b c j k (line (text "cover ") C) → Put c d k l (line (text "dearest ") D) → Put a d i l (figures E C D)
+unfolding figures
+whole E C D p q r = put-then p (put-then q r)
+
+slice-aggregate-line : tie.Need-slice-aggregate-line
+slice-aggregate-line c = search needs
+
+line-requires : tie.Need-line-requires
+line-requires c κs = search needs
+
+slice-aggregate-line-2 : tie.Need-slice-aggregate-line-2
+slice-aggregate-line-2 c = search needs
+
+line-requires-2 : tie.Need-line-requires-2
+line-requires-2 c κs = search needs
+
+slice-aggregate-line-3 : tie.Need-slice-aggregate-line-3
+slice-aggregate-line-3 c = search needs
+
+line-requires-3 : tie.Need-line-requires-3
+line-requires-3 c κs = search needs
+
+same-length : tie.Need-same-length
+same-length c = search needs
+
+returns : tie.Need-returns
+unfolding text
+returns c =
+    let at-second = c .before .before .before .before .before .before .before in
+    let at-first = at-second .before .before .before .before .before in
+    (whole _ _ _ (at-first .line .ensures .0) (at-second .line2 .ensures .0) (c .before .before .line3 .ensures .0), search needs)
+
+pub figures-spec : {M : Type 1} → statement M
+figures-spec =
+    tie.close
+    (tie.spec
+    slice-aggregate-line
+    line-requires
+    slice-aggregate-line-2
+    line-requires-2
+    slice-aggregate-line-3
+    line-requires-3
+    same-length
+    returns)

@@ -1,0 +1,155 @@
+-- `write`: what the pieces put one after the other is the listing of the file.
+use mathlib.Core.Path.{refl, _∙_}
+use Prim.Native.Nat.{_≤_}
+use native.Mathlib.Omega.{arith}
+use borrow.Author.Needs.{needs}
+use Rattle.listing.specs.Listing.{text}
+use Rattle.listing.specs.Laws.Listed.{refused-listed, few-tasks, few-edges, durations-size, finish-fits, plan-listed}
+use Rattle.listing.proofs.write.Statement.{statement}
+use Rattle.listing.proofs.write.Tie as tie
+
+read-requires : tie.Need-read-requires
+read-requires c κs = search needs
+
+enum-known-verdict : tie.Need-enum-known-verdict
+enum-known-verdict c = search needs
+
+enum-told : tie.Need-enum-told
+enum-told c = search needs
+
+slice-aggregate-line : tie.Need-slice-aggregate-line
+slice-aggregate-line c = search needs
+
+refusal-requires : tie.Need-refusal-requires
+refusal-requires c κs = search needs
+
+wide8-requires : tie.Need-wide8-requires
+wide8-requires c κs = search needs
+
+line-requires : tie.Need-line-requires
+line-requires c κs = search needs
+
+returns : tie.Need-returns
+unfolding text
+returns c =
+    let at-read = c .before .before .before .before .before .before .before in
+    (refused-listed _ (at-read .read .ensures) (c .before .before .before .before .before .enum-told .given .1) (c .before .wide8 .ensures ∙ c .before .before .refusal .ensures) (c .line .ensures .0) (omega arith), search needs)
+
+slice-aggregate-cover : tie.Need-slice-aggregate-cover
+slice-aggregate-cover c = search needs
+
+slice-aggregate-cover-2 : tie.Need-slice-aggregate-cover-2
+slice-aggregate-cover-2 c = search needs
+
+slice-aggregate-cover-3 : tie.Need-slice-aggregate-cover-3
+slice-aggregate-cover-3 c = search needs
+
+cover-requires : tie.Need-cover-requires
+cover-requires c κs = search needs
+
+slice-aggregate-plan : tie.Need-slice-aggregate-plan
+slice-aggregate-plan c = search needs
+
+slice-aggregate-plan-2 : tie.Need-slice-aggregate-plan-2
+slice-aggregate-plan-2 c = search needs
+
+slice-aggregate-plan-3 : tie.Need-slice-aggregate-plan-3
+slice-aggregate-plan-3 c = search needs
+
+plan-requires : tie.Need-plan-requires
+plan-requires c κs = search needs
+
+header-requires : tie.Need-header-requires
+header-requires c κs =
+    let at-verdict = c .before .before .before .before .before .before .before .before .before .before .before .before .before .before .before .before in
+    let at-read = at-verdict .before .before in
+    (few-tasks _ (at-read .read .ensures) (at-verdict .verdict .given .1), few-edges _ (at-read .read .ensures) (at-verdict .verdict .given .1), search needs)
+
+slice-aggregate-lines : tie.Need-slice-aggregate-lines
+slice-aggregate-lines c = search needs
+
+slice-aggregate-lines-2 : tie.Need-slice-aggregate-lines-2
+slice-aggregate-lines-2 c = search needs
+
+lines-requires : tie.Need-lines-requires
+lines-requires c κs =
+    let at-header = c .before .before .before .before .before .before in
+    let at-plan = at-header .before .before .before .before .before in
+    let at-cover = at-plan .before .before .before .before .before .before .before in
+    let at-verdict = at-cover .before .before .before .before .before in
+    let at-read = at-verdict .before .before in
+    let few = few-tasks _ (at-read .read .ensures) (at-verdict .verdict .given .1) in (
+      (few, omega (arith, few, at-header .header .ensures .1, at-header .header .kept .0)),
+      (
+        (
+          omega (arith, few, durations-size _ (at-read .read .ensures) (at-verdict .verdict .given .1)),
+          omega (arith, few, at-plan .plan .kept .1 .0, at-cover .cover .kept .1 .0),
+          omega (arith, few, at-plan .plan .kept .1 .1 .0, at-cover .cover .kept .1 .1 .0),
+        ),
+        finish-fits _ (at-read .read .ensures) (at-verdict .verdict .given .1) _ _ _ (at-cover .cover .kept .1 .0) (at-cover .cover .kept .1 .1 .0) (at-cover .cover .kept .1 .1 .1 .0) (at-plan .plan .ensures),
+      ),
+    )
+
+end-in-requires : tie.Need-end-in-requires
+end-in-requires c κs = search needs
+
+cover-in-requires : tie.Need-cover-in-requires
+cover-in-requires c κs = search needs
+
+dearest-in-requires : tie.Need-dearest-in-requires
+dearest-in-requires c κs = search needs
+
+figures-requires : tie.Need-figures-requires
+figures-requires c κs =
+    let at-lines = c .before .before .before .before in
+    let at-header = at-lines .before .before .before .before .before .before .before in
+    let at-verdict = at-header .before .before .before .before .before .before .before .before .before .before .before .before .before .before .before .before .before in
+    let at-read = at-verdict .before .before in
+    omega (arith, few-tasks _ (at-read .read .ensures) (at-verdict .verdict .given .1), at-header .header .ensures .1, at-header .header .kept .0, at-lines .lines .ensures .1, at-lines .lines .kept .0)
+
+returns-2 : tie.Need-returns-2
+returns-2 c =
+    let at-lines = c .before .before .before .before .before in
+    let at-header = at-lines .before .before .before .before .before .before .before in
+    let at-plan = at-header .before .before .before .before .before in
+    let at-cover = at-plan .before .before .before .before .before .before .before in
+    let at-verdict = at-cover .before .before .before .before .before in
+    let at-read = at-verdict .before .before in
+    let few = few-tasks _ (at-read .read .ensures) (at-verdict .verdict .given .1) in
+    let short : c .figures .result ≤ 12288 = omega (arith, few, at-header .header .ensures .1, at-lines .lines .ensures .1, c .figures .ensures .1) in (
+      plan-listed _ (at-read .read .ensures) (at-verdict .verdict .given .1) _ _ _ (at-cover .cover .kept .1 .0) (at-cover .cover .kept .1 .1 .0) (at-cover .cover .kept .1 .1 .1 .0) (at-plan .plan .ensures)
+          _ _ _ refl refl refl (at-cover .cover .ensures) _ _ _
+          (at-header .header .ensures .0) (at-lines .lines .ensures .0) (c .figures .ensures .0)
+          (c .before .before .before .end-in .ensures) (c .before .before .cover-in .ensures) (c .before .dearest-in .ensures) (omega (arith, short, at-header .before .header-arg .given .0 .1)),
+      short,
+    )
+
+pub write-spec : {M : Type 1} → statement M
+write-spec =
+    tie.close
+    (tie.spec
+    read-requires
+    enum-known-verdict
+    enum-told
+    slice-aggregate-line
+    refusal-requires
+    wide8-requires
+    line-requires
+    returns
+    slice-aggregate-cover
+    slice-aggregate-cover-2
+    slice-aggregate-cover-3
+    cover-requires
+    slice-aggregate-plan
+    slice-aggregate-plan-2
+    slice-aggregate-plan-3
+    plan-requires
+    header-requires
+    slice-aggregate-lines
+    slice-aggregate-lines-2
+    lines-requires
+    end-in-requires
+    cover-in-requires
+    dearest-in-requires
+    figures-requires
+    returns-2)

@@ -1,0 +1,157 @@
+-- A listing is whole: a refused file's line, or header, lines and figures of the planner's schedule, which the two calls leave and return.
+use mathlib.Core.Path.{_≡_, refl, ap, sym, _∙_}
+use mathlib.Core.List.{List, _++_}
+use Prim.Native.Nat.{ℕ, _+_, _≤_, _<_}
+use native.Mathlib.Nat.{zero-add}
+use native.Mathlib.Omega.{arith}
+use borrow.Author.Tests.{le-ltb}
+use lib.ListN.{length, getD, drop}
+use Rattle.job.specs.declared.Verdict.the-variants.{Counts, Refused}
+use Rattle.job.specs.declared.Reading.{Reading}
+use Rattle.job.specs.Job.{Job}
+use Rattle.job.specs.Read.{accepted, readJob, readingOf}
+use Rattle.job.specs.Accepted.{Accepted, accepted-job, counted, arrays}
+use Rattle.job.specs.Laws.Stored.{sets-front}
+use Rattle.etf.specs.Lists.{upto}
+use Rattle.etf.specs.Instance.{Instance, tasks, duration}
+use Rattle.etf.specs.Schedule.{placementOf, end}
+use Rattle.etf.specs.Rule.{planned}
+use Rattle.etf.specs.Cover.{cover}
+use Rattle.etf.specs.Dearest.{dearest}
+use Rattle.etf.specs.OfJob.{instance}
+use Rattle.etf.specs.Jobs.{well-formed, no-end-passes}
+use Rattle.etf.specs.Laws.Lists.{upto-of, flatMap-same}
+use Rattle.etf.specs.Laws.Planned.{home, by-end}
+use Rattle.schedule.specs.declared.Planned.{Planned}
+use Rattle.schedule.specs.declared.Covered.{Covered}
+use Rattle.schedule.specs.Plan.{PlanCall, called, startOf, processorOf, planAccepted, planFor, planCall}
+use Rattle.schedule.specs.Cover.{CoverCall, covered, coverAccepted, coverFor, coverCall}
+use Rattle.schedule.specs.Laws.Filled.{filled-at}
+use Rattle.schedule.specs.Laws.Reading.{refused-is}
+use Rattle.listing.specs.Listing.{text, line, header, taskLines, figures, planListing, listingFor, listing, listed, listingCall}
+use Rattle.listing.specs.Pass.{Put, verdictNumber, endIn, coverIn, dearestIn}
+use Rattle.listing.specs.Laws.Put.{put-then}
+
+-- ---- the same numbers, the same text
+
+header-same : {n n′ m m′ l l′ : ℕ} → n ≡ n′ → m ≡ m′ → l ≡ l′ → header n m l ≡ header n′ m′ l′
+header-same a b c = rw (a, b, c)
+
+lines-same : {m m′ : ℕ} (p p′ s s′ d d′ : ℕ → ℕ) → m ≡ m′ → ((T : ℕ) → T < m′ → p T ≡ p′ T) → ((T : ℕ) → T < m′ → s T ≡ s′ T) → ((T : ℕ) → T < m′ → d T ≡ d′ T)
+    → taskLines m p s d ≡ taskLines m′ p′ s′ d′
+unfolding taskLines
+lines-same {m} {m′} p p′ s s′ d d′ e a b c =
+    rw e (flatMap-same _ _ (upto m′) (λ T h. rw (a T (upto-of m′ T h), b T (upto-of m′ T h), c T (upto-of m′ T h))))
+
+listing-same : {E E′ C C′ D D′ : ℕ} {a a′ b b′ : List ℕ} → a ≡ a′ → b ≡ b′ → E ≡ E′ → C ≡ C′ → D ≡ D′
+    → a ++ (b ++ figures E C D) ≡ a′ ++ (b′ ++ figures E′ C′ D′)
+listing-same p q x y z = rw (p, q, x, y, z)
+
+-- the text stands at the front of the buffer
+put-front : (file : List ℕ) {out out′ : List ℕ} {n : ℕ} {s : List ℕ} → Put out out′ 0 n s → s ≡ listing file → n ≤ length out → listed n out′ ≡ listingCall file out
+unfolding listingCall
+put-front file {out} {out′} {n} {s} p e h =
+    let size : n ≡ length (listing file) = p .past ∙ (zero-add (length s) ∙ ap length e) in
+    let stored : out′ ≡ listing file ++ drop (length (listing file)) out = p .stored ∙ rw e (sets-front out (listing file) (length (listing file)) refl (omega (arith, size))) in
+    rw (size, stored)
+
+-- a refused file
+pub refused-listed : (file : List ℕ) {x : Reading} {k n : ℕ} {out out′ : List ℕ} {r : ℕ} → x ≡ readingOf (readJob file) → x .verdict ≡ Refused k → n ≡ verdictNumber (x .verdict)
+    → Put out out′ 0 r (line (text "refused ") n) → r ≤ length out → listed r out′ ≡ listingCall file out
+unfolding listing listingFor
+refused-listed file {x} {k} {n} e v g p h =
+    let says = refused-is (readJob file) (ap (λ (y : Reading). y .verdict) (sym e) ∙ v) in
+    let number : n ≡ k = g ∙ ap verdictNumber v in
+    put-front file p (ap (line (text "refused ")) number ∙ ap listingFor (sym says)) h
+
+-- an accepted file, and what was read of it
+module _ (file : List ℕ) {x : Reading} {m l : ℕ} (e : x ≡ readingOf (readJob file)) (v : x .verdict ≡ Counts m l) where
+  found : (j : Job) × (readJob file ≡ accepted j) × (length (j .tasks) ≡ m) × (length (j .edges) ≡ l)
+  found = counted (readJob file) m l (ap (λ (r : Reading). r .verdict) (sym e) ∙ v)
+
+  abbrev job : Job
+  job = found .0
+
+  abbrev I : Instance
+  I = instance job
+
+  sound : Accepted job
+  sound = accepted-job file job (found .1)
+
+  reading-is : x ≡ readingOf (accepted job)
+  reading-is = e ∙ ap readingOf (found .1)
+
+  pub few-tasks : m ≤ 256
+  few-tasks = omega (arith, found .2, sound .few-tasks)
+
+  pub few-edges : l ≤ 1024
+  few-edges = omega (arith, found .3, sound .few-edges)
+
+  pub durations-size : length (x .durations) ≡ 256
+  durations-size = ap (λ (y : Reading). length (y .durations)) reading-is ∙ arrays job sound .durations-length
+
+  duration-at : (T : ℕ) → getD (x .durations) T 0 ≡ duration I T
+  unfolding duration instance
+  duration-at T = ap (λ (y : Reading). getD (y .durations) T 0) reading-is ∙ arrays job sound .duration-at T
+
+  header-is : header (x .platform .processors) m l ≡ header (I .processors) (tasks I) (length (I .edges))
+  unfolding instance readingOf
+  header-is = header-same (ap (λ (y : Reading). y .platform .processors) reading-is) (sym (found .2)) (sym (found .3))
+
+  -- what the planner's call returns and leaves
+  module _ {r : Planned} {s p t : List ℕ} (s₀ p₀ t₀ : List ℕ) (a : length s₀ ≡ 256) (b : length p₀ ≡ 256) (c : length t₀ ≡ 4096) (h : called r s p t ≡ planCall file s₀ p₀ t₀) where
+    plan-is : called r s p t ≡ planAccepted I s₀ p₀ t₀
+    unfolding planCall planFor instance
+    plan-is =
+        h
+        ∙ rw (found .1, le-ltb (length s₀) (length (job .tasks)) (omega (arith, sound .few-tasks)), le-ltb (length p₀) (length (job .tasks)) (omega (arith, sound .few-tasks)), le-ltb (length t₀) 4096 (omega arith))
+
+    end-is : endIn r ≡ end I (planned I)
+    unfolding planAccepted
+    end-is = ap (λ (q : PlanCall). endIn (q .answer)) plan-is
+
+    start-at : (T : ℕ) → T < tasks I → getD s T 0 ≡ startOf I T
+    unfolding planAccepted
+    start-at T k = ap (λ (q : PlanCall). getD (q .starts) T 0) plan-is ∙ filled-at (startOf I) (tasks I) s₀ T k
+
+    processor-at : (T : ℕ) → T < tasks I → getD p T 0 ≡ processorOf I T
+    unfolding planAccepted
+    processor-at T k = ap (λ (q : PlanCall). getD (q .processors) T 0) plan-is ∙ filled-at (processorOf I) (tasks I) p₀ T k
+
+    -- a finish has 32 bits
+    pub finish-fits : (T : ℕ) → T < m → getD s T 0 + getD (x .durations) T 0 < 4294967296
+    unfolding startOf instance
+    finish-fits T k =
+        let W = well-formed job sound in
+        let b : T < length (job .tasks) = omega (arith, found .2) in
+        omega (arith, start-at T b, duration-at T, by-end I W T b, no-end-passes job sound, ap (duration I) (home I W T b .1))
+
+    lines-are : taskLines m (λ T. getD p T 0) (λ T. getD s T 0) (λ T. getD (x .durations) T 0) ≡ taskLines (tasks I) (processorOf I) (startOf I) (duration I)
+    unfolding instance
+    lines-are = lines-same _ _ _ _ _ _ (sym (found .2)) processor-at start-at (λ T k. duration-at T)
+
+    -- the whole listing
+    module _ {q : Covered} {s₁ p₁ t₁ : List ℕ} (s₂ p₂ t₂ : List ℕ) (a₂ : length s₂ ≡ 256) (b₂ : length p₂ ≡ 256) (c₂ : length t₂ ≡ 4096) (g : covered q s₁ p₁ t₁ ≡ coverCall file s₂ p₂ t₂) where
+      cover-is : covered q s₁ p₁ t₁ ≡ coverAccepted I s₂ p₂ t₂
+      unfolding coverCall coverFor instance
+      cover-is =
+          g
+          ∙ rw (found .1, le-ltb (length s₂) (length (job .tasks)) (omega (arith, sound .few-tasks)), le-ltb (length p₂) (length (job .tasks)) (omega (arith, sound .few-tasks)), le-ltb (length t₂) 4096 (omega arith))
+
+      cover-right : coverIn q ≡ cover I
+      unfolding coverAccepted
+      cover-right = ap (λ (y : CoverCall). coverIn (y .answer)) cover-is
+
+      dearest-right : dearestIn q ≡ dearest I
+      unfolding coverAccepted
+      dearest-right = ap (λ (y : CoverCall). dearestIn (y .answer)) cover-is
+
+      pub plan-listed : {out o₁ o₂ o₃ : List ℕ} {i j k : ℕ} (E C D : ℕ)
+          → Put out o₁ 0 i (header (x .platform .processors) m l)
+          → Put o₁ o₂ i j (taskLines m (λ T. getD p T 0) (λ T. getD s T 0) (λ T. getD (x .durations) T 0))
+          → Put o₂ o₃ j k (figures E C D)
+          → E ≡ endIn r → C ≡ coverIn q → D ≡ dearestIn q → k ≤ length out → listed k o₃ ≡ listingCall file out
+      unfolding listing listingFor planListing
+      plan-listed E C D first second third e-is c-is d-is fits =
+          put-front file (put-then first (put-then second third))
+          (listing-same header-is lines-are (e-is ∙ end-is) (c-is ∙ cover-right) (d-is ∙ dearest-right) ∙ ap listingFor (sym (found .1))) fits
