@@ -1,10 +1,11 @@
 -- What holds of every printed text: its numbers tell themselves, and the file's first 6,406 bytes settle it.
-use mathlib.Core.Path.{_≡_, ap, _∙_}
+use mathlib.Core.Path.{_≡_, ap}
 use mathlib.Core.List.{List}
-use Prim.Native.Nat.{ℕ, _^_, _<_}
-use lib.ListN.{take}
+use Prim.Native.Nat.{ℕ, _^_, _≤_, _<_}
+use native.Mathlib.Omega.{arith}
+use lib.ListN.{length, take, drop, length-append}
 use Rattle.job.specs.RoundTrip.{settled}
-use Rattle.listing.specs.Listing.{decimal, listingFor, listing}
+use Rattle.listing.specs.Listing.{decimal, listingFor, listing, ListingCall, listed, listingCall}
 use Rattle.listing.specs.Laws.Told.{told, told-digits}
 
 -- the digits of a number, read as one, are that number: no two numbers of 32 bits print the same
@@ -16,3 +17,11 @@ decimal-tells x h = told-digits 10 x h
 pub first-bytes : (file : List ℕ) → listing (take 6406 file) ≡ listing file
 unfolding listing
 first-bytes file = ap listingFor (settled file)
+
+-- the text stands in the buffer: its length is at most the buffer's
+pub text-within : (file out : List ℕ) {n : ℕ} {out′ : List ℕ} → listed n out′ ≡ listingCall file out → n ≤ length out′
+unfolding listingCall
+text-within file out e =
+    let size = ap (λ (c : ListingCall). c .length) e in
+    let held = ap (λ (c : ListingCall). length (c .buffer)) e in
+    omega (arith, size, held, length-append (listing file) (drop (length (listing file)) out))

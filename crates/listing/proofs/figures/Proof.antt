@@ -1,6 +1,8 @@
 -- `figures`: three lines.
+use mathlib.Core.Path.{_≡_}
 use mathlib.Core.List.{List}
 use Prim.Native.Nat.{ℕ}
+use native.Mathlib.Omega.{arith}
 use borrow.Author.Needs.{needs}
 use Rattle.listing.specs.Listing.{text, line, figures}
 use Rattle.listing.specs.Pass.{Put}
@@ -8,9 +10,10 @@ use Rattle.listing.specs.Laws.Put.{put-then}
 use Rattle.listing.proofs.figures.Statement.{statement}
 use Rattle.listing.proofs.figures.Tie as tie
 
-whole : {a b c d : List ℕ} {i j k l : ℕ} (E C D : ℕ) → Put a b i j (line (text "end ") E) → Put b c j k (line (text "cover ") C) → Put c d k l (line (text "dearest ") D) → Put a d i l (figures E C D)
+whole : {a b c d : List ℕ} {i j k l : ℕ} (E C D e c′ d′ : ℕ) → Put a b i j (line (text "end ") e) → Put b c j k (line (text "cover ") c′) → Put c d k l (line (text "dearest ") d′)
+    → e ≡ E → c′ ≡ C → d′ ≡ D → Put a d i l (figures E C D)
 unfolding figures
-whole E C D p q r = put-then p (put-then q r)
+whole E C D e c′ d′ p q r x y z = rw (x, y, z) at (put-then p (put-then q r))
 
 slice-aggregate-line : tie.Need-slice-aggregate-line
 slice-aggregate-line c = search needs
@@ -38,7 +41,7 @@ unfolding text
 returns c =
     let at-second = c .before .before .before .before .before .before .before in
     let at-first = at-second .before .before .before .before .before in
-    (whole _ _ _ (at-first .line .ensures .0) (at-second .line2 .ensures .0) (c .before .before .line3 .ensures .0), search needs)
+    (whole _ _ _ _ _ _ (at-first .line .ensures .0) (at-second .line2 .ensures .0) (c .before .before .line3 .ensures .0) (omega arith) (omega arith) (omega arith), search needs)
 
 pub figures-spec : {M : Type 1} → statement M
 figures-spec =

@@ -2,6 +2,7 @@
 use mathlib.Core.Path.{_≡_, refl}
 use mathlib.Core.List.{List}
 use Prim.Native.Nat.{ℕ}
+use native.Mathlib.Omega.{arith}
 use borrow.Author.Needs.{needs}
 use Rattle.listing.specs.Listing.{text, field, header}
 use Rattle.listing.specs.Pass.{Put}
@@ -9,9 +10,10 @@ use Rattle.listing.specs.Laws.Put.{put-then}
 use Rattle.listing.proofs.header.Statement.{statement}
 use Rattle.listing.proofs.header.Tie as tie
 
-whole : {a b c d e : List ℕ} {i j k l m : ℕ} (word : List ℕ) (n n′ t s : ℕ) → word ≡ text "plan " → n′ ≡ n → Put a b i j word → Put b c j k (field n′ 32) → Put c d k l (field t 32) → Put d e l m (field s 10) → Put a e i m (header n t s)
+whole : {a b c d e : List ℕ} {i j k l m : ℕ} (word : List ℕ) (n t s n′ t′ s′ : ℕ) → word ≡ text "plan " → Put a b i j word → Put b c j k (field n′ 32) → Put c d k l (field t′ 32) → Put d e l m (field s′ 10)
+    → n′ ≡ n → t′ ≡ t → s′ ≡ s → Put a e i m (header n t s)
 unfolding header
-whole word n n′ t s w e p q r u = rw (w, e) at (put-then p (put-then q (put-then r u)))
+whole word n t s n′ t′ s′ w p q r u x y z = rw (w, x, y, z) at (put-then p (put-then q (put-then r u)))
 
 slice-aggregate-word : tie.Need-slice-aggregate-word
 slice-aggregate-word c = search needs
@@ -46,7 +48,7 @@ returns c =
     let at-third = c .before .before .before .before .before .before in
     let at-second = at-third .before .before .before .before in
     let at-word = at-second .before .before .before .before .before in
-    (whole _ _ _ _ _ refl (at-second .before .wide8 .ensures) (at-word .word .ensures) (at-second .field .ensures .0) (at-third .field2 .ensures .0) (c .before .before .field3 .ensures .0), search needs)
+    (whole _ _ _ _ _ _ _ refl (at-word .word .ensures) (at-second .field .ensures .0) (at-third .field2 .ensures .0) (c .before .before .field3 .ensures .0) (omega (arith, at-second .before .wide8 .ensures)) (omega arith) (omega arith), search needs)
 
 pub header-spec : {M : Type 1} → statement M
 header-spec =

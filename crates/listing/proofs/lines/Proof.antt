@@ -1,6 +1,6 @@
 -- `lines`: the lines put so far are those of the first tasks.
-use mathlib.Core.Path.{_≡_, refl, _∙_}
-use Prim.Native.Nat.{ℕ, _+_, _*_, _-_, _≤_, _<_}
+use mathlib.Core.Path.{_≡_, refl}
+use Prim.Native.Nat.{_+_, _*_, _-_, _≤_}
 use native.Mathlib.Omega.{arith}
 use borrow.Author.Needs.{needs}
 use lib.ListN.{length, getD}
@@ -68,7 +68,7 @@ loop-again : tie.Need-loop-again Inv-loop μ-loop
 loop-again c =
     let at-wide8 = c .before .before .before .before in
     let at-loop = at-wide8 .before .before .before .before .before .before in
-    (search needs, search needs, search needs, search needs, search needs, search needs, search needs, search needs, lines-more _ _ _ _ _ _ _ _ (at-loop .loop .inv .8) (c .before .before .task .ensures .0) refl (at-wide8 .wide8 .ensures) refl refl)
+    (search needs, search needs, search needs, search needs, search needs, search needs, search needs, search needs, lines-more _ _ _ _ _ _ _ _ (at-loop .loop .inv .8) (c .before .before .task .ensures .0) (omega arith) (omega (arith, at-wide8 .wide8 .ensures)) (omega arith) (omega arith))
 
 same-length : tie.Need-same-length Inv-loop μ-loop
 same-length c = search needs

@@ -14,7 +14,7 @@ use Rattle.job.specs.Accepted.{Accepted, accepted-job, counted, arrays}
 use Rattle.job.specs.Laws.Stored.{sets-front}
 use Rattle.etf.specs.Lists.{upto}
 use Rattle.etf.specs.Instance.{Instance, tasks, duration}
-use Rattle.etf.specs.Schedule.{placementOf, end}
+use Rattle.etf.specs.Schedule.{end}
 use Rattle.etf.specs.Rule.{planned}
 use Rattle.etf.specs.Cover.{cover}
 use Rattle.etf.specs.Dearest.{dearest}

@@ -1,0 +1,94 @@
+-- `main`: what was read, and what is written, are parts of the buffers.
+use mathlib.Core.Path.{_≡_, ap, sym, _∙_}
+use mathlib.Core.List.{List}
+use Prim.Native.Nat.{ℕ, _≤_}
+use native.Mathlib.Omega.{arith}
+use borrow.Author.Needs.{needs}
+use lib.ListN.{length, take}
+use lib.Seq.{length-take-le}
+use Rattle.listing.specs.Printed.{text-within}
+use Rattle.plan.specs.declared.Came.{Came}
+use Rattle.plan.specs.declared.Came.the-variants.{Bytes}
+use Rattle.plan.specs.Input.{count}
+use Rattle.plan.proofs.main.Statement.{statement}
+use Rattle.plan.proofs.main.Tie as tie
+
+came-within : {r : Came} {n k : ℕ} (input : List ℕ) → r ≡ Bytes n → count r ≤ k → length input ≡ k → n ≤ length input
+came-within input e h g = omega (arith, ap count e)
+
+slice-aggregate-read-all : tie.Need-slice-aggregate-read-all
+slice-aggregate-read-all c = search needs
+
+read-all-requires : tie.Need-read-all-requires
+read-all-requires c κs = search needs
+
+enum-known-came : tie.Need-enum-known-came
+enum-known-came c = search needs
+
+enum-told : tie.Need-enum-told
+enum-told c = search needs
+
+slice-aggregate-fail : tie.Need-slice-aggregate-fail
+slice-aggregate-fail c = search needs
+
+fail-requires : tie.Need-fail-requires
+fail-requires c κs = search needs
+
+returns : tie.Need-returns
+returns c = search needs
+
+array-share-prefix-input : tie.Need-array-share-prefix-input
+array-share-prefix-input c =
+    let at-read = c .before .before .before .before in
+    came-within (at-read .read-all .last .0) (c .before .came .given .1) (at-read .read-all .ensures) (at-read .read-all .kept .0)
+
+slice-aggregate-write : tie.Need-slice-aggregate-write
+slice-aggregate-write c =
+    let at-read = c .before .before .before .before .before in
+    sym (length-take-le _ (at-read .read-all .last .0) (came-within (at-read .read-all .last .0) (c .before .before .came .given .1) (at-read .read-all .ensures) (at-read .read-all .kept .0)))
+
+write-requires : tie.Need-write-requires
+write-requires c κs = search needs
+
+array-share-prefix-output : tie.Need-array-share-prefix-output
+array-share-prefix-output c = text-within _ _ (c .write .ensures .0)
+
+slice-aggregate-write-all : tie.Need-slice-aggregate-write-all
+slice-aggregate-write-all c = sym (length-take-le (c .before .write .result) (c .before .write .last .1 .0) (text-within _ _ (c .before .write .ensures .0)))
+
+write-all-requires : tie.Need-write-all-requires
+write-all-requires c κs = search needs
+
+slice-aggregate-fail-2 : tie.Need-slice-aggregate-fail-2
+slice-aggregate-fail-2 c = search needs
+
+fail-requires-2 : tie.Need-fail-requires-2
+fail-requires-2 c κs = search needs
+
+returns-2 : tie.Need-returns-2
+returns-2 c = search needs
+
+returns-3 : tie.Need-returns-3
+returns-3 c = search needs
+
+pub main-spec : {M : Type 1} → statement M
+main-spec =
+    tie.close
+    (tie.spec
+    slice-aggregate-read-all
+    read-all-requires
+    enum-known-came
+    enum-told
+    slice-aggregate-fail
+    fail-requires
+    returns
+    array-share-prefix-input
+    slice-aggregate-write
+    write-requires
+    array-share-prefix-output
+    slice-aggregate-write-all
+    write-all-requires
+    slice-aggregate-fail-2
+    fail-requires-2
+    returns-2
+    returns-3)
