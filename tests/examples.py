@@ -171,7 +171,8 @@ def hold_programs():
     hold("tools/job show", shown, (jobtext.show(A).encode(), "", 0))
     hold("tools/job make of what it showed", run("job", "make", "-", data=b"\xef\xbb\xbf" + shown[0].replace(b"\n", b"\r\n")), (A, "", 0))
     hold("tools/job make of an absent file", run("job", "make", "absent.txt"), (b"", "absent.txt: No such file or directory\n", 1))
-    hold("tools/job make of a bad text", run("job", "make", data=b"rack 1 flat 1\nstep\n"), (b"", "standard input:2: step: 1 word must follow (duration), not 0\n", 1))
+    said = "standard input:2: step: 1 word must follow (duration), not 0\n"
+    hold("tools/job make of a bad text", run("job", "make", data=b"rack 1 flat 1\nstep\n"), (b"", said, 1))
     hold("tools/job make of no text", run("job", "make", data=b"rack\n\xff"), (b"", "standard input:2: this is not text in UTF-8\n", 1))
     said = "standard input: refused 1 at byte 0: the file ends where a record or its body is due (a record is due)\n"
     hold("tools/job show of a bad file", run("job", "show"), (b"", said, 1))
@@ -200,7 +201,8 @@ def main():
     except Differs as trouble:
         print(f"examples: FAILED: {trouble}")
         return 1
-    print(f"examples: {len(NAMES)} jobs with text, plan and chart, {len(BAD_TEXTS)} bad texts, {len(BAD_FILES)} bad files, {FILES} random files, {walked} walks: 0 differ")
+    print(f"examples: {len(NAMES)} jobs with text, plan and chart, {len(BAD_TEXTS)} bad texts, {len(BAD_FILES)} bad files, "
+          f"{FILES} random files, {walked} walks: 0 differ")
     return 0
 
 
