@@ -92,8 +92,13 @@ class Differs(Exception):
 
 
 def hold(what, found, due):
-    if found != due:
-        raise Differs(f"{what}: {str(found)[:300]!r}, not {str(due)[:300]!r}")
+    """Sees that something is as it is due; of two texts it says where they part."""
+    if found == due:
+        return
+    if type(found) in (str, bytes):
+        at = next((at for at, (a, b) in enumerate(zip(found, due)) if a != b), min(len(found), len(due)))
+        what, found, due = f"{what}, from place {at} on", found[at : at + 40], due[at : at + 40]
+    raise Differs(f"{what}: {found!r}, not {due!r}")
 
 
 def run(tool, *words, data=b""):
