@@ -1,0 +1,215 @@
+#!/usr/bin/env python3
+"""Holds tools/job, tools/gantt and the examples to the reference planner and to one another.
+
+    examples.py
+
+Of each example: its text makes its job file, the job file's text makes it again, the reference prints its plan, and the chart
+is well-formed and has a box for each step. docs/plan.svg is what tools/gantt draws. A table of bad texts and bad files has the
+message that each gets. On random files tools/job refuses as the reference does, and the walk that tools/gantt goes has the
+reference's cover for its sum. The first thing that differs is printed, with status 1.
+"""
+import subprocess
+import sys
+import xml.etree.ElementTree as Xml
+from pathlib import Path
+
+TOP = Path(__file__).resolve().parent.parent
+sys.path[:0] = [str(TOP / folder) for folder in ("tests", "tests/reference", "tests/differential", "tools")]
+sys.dont_write_bytecode = True
+import etf  # noqa: E402
+from jobs import some_file  # noqa: E402
+from kelvrist import jobfile, jobtext, listing  # noqa: E402
+from kelvrist.walk import walk  # noqa: E402
+from make_vectors import Dice  # noqa: E402
+
+EXAMPLES = TOP / "examples"
+NAMES = ["a", "cube16", "forkjoin", "greatest", "postponed", "ring"]
+PICTURE = "forkjoin"  # the example that docs/plan.svg shows
+FILES = 300
+SVG = "{http://www.w3.org/2000/svg}"
+
+# Each rule of a text once: the text, the line and the message.
+RACK, TWO = "rack 2 flat 2\n", "rack 2 flat 2\nstep 5\nstep 5\n"
+BAD_TEXTS = [
+    ("", 1, "a rack must come before the end of the text"),
+    ("# nothing\n\n", 2, "a rack must come before the end of the text"),
+    (RACK, 1, "a step must come before the end of the text"),
+    ("step 5\n", 1, "a rack must come before the step"),
+    ("link 0 1 1\n", 1, "a rack must come before the link"),
+    (RACK + "link 0 1 1\n", 2, "a step must come before the link"),
+    (RACK + RACK, 2, "there is a rack already"),
+    (TWO + "link 0 1 1\nstep 5\n", 5, "steps come before links"),
+    (RACK + "stpe 5\n", 2, "'stpe': a line begins with rack, step or link"),
+    (TWO + "end\n", 4, "'end': a line begins with rack, step or link"),
+    ("\x1b[2J\n", 1, "'\\x1b[2J': a line begins with rack, step or link"),
+    ("rack 2 flat\n", 1, "rack: 3 words must follow (boards, wiring, cost), not 2"),
+    ("rack 2 flat 2 2\n", 1, "rack: 3 words must follow (boards, wiring, cost), not 4"),
+    (RACK + "step # 5\n", 2, "step: 1 word must follow (duration), not 0"),
+    (RACK + "step 5 6\n", 2, "step: 1 word must follow (duration), not 2"),
+    (TWO + "link 0 1\n", 4, "link: 3 words must follow (from, to, messages), not 2"),
+    (TWO + "link 0 1 1 1\n", 4, "link: 3 words must follow (from, to, messages), not 4"),
+    (RACK + "\nstep five\n", 3, "duration 'five' is not a whole number (digits alone)"),
+    (RACK + "step -5\n", 2, "duration '-5' is not a whole number (digits alone)"),
+    (RACK + "step 1_0\n", 2, "duration '1_0' is not a whole number (digits alone)"),
+    (RACK + "step \u0665\n", 2, "duration '\u0665' is not a whole number (digits alone)"),
+    (RACK + "step " + "9" * 5000, 2, "duration '999999999999999999999999..' is too great"),
+    ("rack 0 flat 2\n", 1, "boards 0 is not 1 to 16"),
+    ("rack 17 flat 2\n", 1, "boards 17 is not 1 to 16"),
+    ("rack 2 star 2\n", 1, "wiring 'star' is not flat, cube or ring"),
+    ("rack 2 0 2\n", 1, "wiring '0' is not flat, cube or ring"),
+    ("rack 2 flat 101\n", 1, "cost 101 is not 0 to 100"),
+    (RACK + "step 0\n", 2, "duration 0 is not 1 to 1000000"),
+    (RACK + "step 1000001\n", 2, "duration 1000001 is not 1 to 1000000"),
+    (TWO + "link 0 1 0\n", 4, "messages 0 is not 1 to 1000"),
+    (TWO + "link 0 1 1001\n", 4, "messages 1001 is not 1 to 1000"),
+    (RACK + "step 5\n" * 257, 258, "a job has at most 256 steps"),
+    (RACK + "step 5\n" * 47 + "".join(f"link {a} {b} 1\n" for a in range(46) for b in range(a + 1, 47)), 1073, "a job has at most 1024 links"),
+    (TWO + "link 1 0 1\n", 4, "link 1 to 0: from must be below to"),
+    (TWO + "link 1 1 1\n", 4, "link 1 to 1: from must be below to"),
+    (TWO + "link 0 2 1\n", 4, "link 0 to 2: the last step is 1"),
+    (TWO + "link 0 300 1\n", 4, "link 0 to 300: the last step is 1"),
+    (TWO + "step 5\nlink 0 2 1\nlink 0 1 1\n", 6, "link 0 to 1: links rise by from, then by to, and the one before is 0 to 2"),
+    (TWO + "link 0 1 1\nlink 0 1 1\n", 5, "link 0 to 1: links rise by from, then by to, and the one before is 0 to 1"),
+]
+
+# The refusals of a job file: its bytes, and the end of the line that `tools/job show` gives.
+A = (EXAMPLES / "a.job").read_bytes()
+BAD_FILES = [
+    (b"", 1, 0, "a record is due"),
+    (A[:20], 1, 19, "the link is cut"),
+    (b"\x09", 2, 0, "kind 9"),
+    (A[4:], 3, 0, "a rack must come before the step"),
+    (b"\x01\x00\x00\x05", 4, 0, "boards 0 is not 1 to 16"),
+    (A[:4] + A[4:9] * 257, 5, 1284, "a job has at most 256 steps"),
+    (A[:9] + b"\x03\x00\x00\x01\x00", 6, 9, "link 0 to 0: from must be below to"),
+    (A[:24] + A[19:], 7, 24, "link 0 to 2: links rise by from, then by to, and the one before is 0 to 2"),
+    (A + b"\x00", 8, 30, "the end record should be the last byte, 1 more follow"),
+]
+
+
+class Differs(Exception):
+    """Something is not as it should be."""
+
+
+def hold(what, found, due):
+    """Sees that something is as it is due; of two texts it says where they part."""
+    if found == due:
+        return
+    if type(found) in (str, bytes):
+        at = next((at for at, (a, b) in enumerate(zip(found, due)) if a != b), min(len(found), len(due)))
+        what, found, due = f"{what}, from place {at} on", found[at : at + 40], due[at : at + 40]
+    raise Differs(f"{what}: {found!r}, not {due!r}")
+
+
+def run(tool, *words, data=b""):
+    """What a tool prints, what it says on standard error, and its status."""
+    done = subprocess.run([sys.executable, str(TOP / "tools" / tool), *map(str, words)], input=data, capture_output=True)
+    return done.stdout, done.stderr.decode(), done.returncode
+
+
+def hold_example(name):
+    """Of one example: text, job file, plan and chart."""
+    text, job, plan = ((EXAMPLES / f"{name}.{kind}") for kind in ("txt", "job", "plan"))
+    data = job.read_bytes()
+    hold(f"the job of {name}.txt", jobtext.make(text.read_text()), data)
+    hold(f"the text of {name}.job, made again", jobtext.make(jobtext.show(data)), data)
+    hold(f"the plan of {name}.job by the reference", etf.report(data), plan.read_text())
+    chart, said, status = run("gantt", job, data=plan.read_bytes())
+    hold(f"the chart of {name}", (said, status), ("", 0))
+    boxes = [box for box in Xml.fromstring(chart).iter(f"{SVG}rect") if box.find(f"{SVG}title") is not None]
+    rows = [row.split() for row in plan.read_text().split("\n")[1:-4]]
+    due = ["step {}: board {}, start {}, finish {}".format(*row) for row in rows]
+    hold(f"the boxes of {name}", [box.find(f"{SVG}title").text for box in boxes], due)
+    if name == PICTURE:
+        hold("docs/plan.svg", (TOP / "docs" / "plan.svg").read_bytes(), chart)
+
+
+def hold_texts():
+    for text, line, message in BAD_TEXTS:
+        try:
+            jobtext.make(text)
+        except jobtext.BadText as bad:
+            hold(f"the text {text[:60]!r}", (bad.line, bad.what), (line, message))
+        else:
+            raise Differs(f"the text {text[:60]!r} is taken")
+
+
+def hold_files():
+    """The refusals of the table, then those of random files."""
+    for data, number, at, what in BAD_FILES:
+        try:
+            jobfile.read(data)
+        except jobfile.Refused as refused:
+            hold(f"the file {data[:40].hex()}", (refused.number, refused.at, refused.what), (number, at, what))
+        else:
+            raise Differs(f"the file {data[:40].hex()} is taken")
+    for number in range(FILES):
+        data = some_file(Dice(number))
+        hold(f"random file {number}", *(answer(module, data) for module in (jobfile, etf)))
+
+
+def answer(module, data):
+    """A reader's refusal of a file, or 0."""
+    try:
+        module.read(data)
+    except module.Refused as refused:
+        return refused.number
+    return 0
+
+
+def hold_walks():
+    """The walk's sum is the cover, on the random files that are small jobs; gives how many."""
+    walked = 0
+    for number in range(FILES):
+        data = some_file(Dice(number))
+        if answer(etf, data) == 0 and len(data) < 400:
+            plan = listing.read(etf.report(data).encode())
+            hold(f"the walk's sum in random file {number}", sum(move.time for move in walk(jobfile.read(data), plan.steps)), plan.cover)
+            walked += 1
+    return walked
+
+
+def hold_programs():
+    """The two programs, as a person runs them."""
+    text, job, plan = ((EXAMPLES / f"a.{kind}") for kind in ("txt", "job", "plan"))
+    shown = run("job", "show", job)
+    hold("tools/job show", shown, (jobtext.show(A).encode(), "", 0))
+    hold("tools/job make of what it showed", run("job", "make", "-", data=b"\xef\xbb\xbf" + shown[0].replace(b"\n", b"\r\n")), (A, "", 0))
+    hold("tools/job make of an absent file", run("job", "make", "absent.txt"), (b"", "absent.txt: No such file or directory\n", 1))
+    said = "standard input:2: step: 1 word must follow (duration), not 0\n"
+    hold("tools/job make of a bad text", run("job", "make", data=b"rack 1 flat 1\nstep\n"), (b"", said, 1))
+    hold("tools/job make of no text", run("job", "make", data=b"rack\n\xff"), (b"", "standard input:2: this is not text in UTF-8\n", 1))
+    said = "standard input: refused 1 at byte 0: the file ends where a record or its body is due (a record is due)\n"
+    hold("tools/job show of a bad file", run("job", "show"), (b"", said, 1))
+    said = "there is no plan to draw: the job was refused by 8 (bytes after the end record)\n"
+    hold("tools/gantt of a refusal", run("gantt", job, data=b"refused 8\n"), (b"", said, 1))
+    said = "this is no plan's listing: line 1 should be `plan` with boards, steps and links\n"
+    hold("tools/gantt of no listing", run("gantt", job, data=b"\xff\n"), (b"", said, 1))
+    said = "the listing's cover is 5, but the walk's sum is 6\n"
+    hold("tools/gantt of a wrong cover", run("gantt", job, data=plan.read_bytes().replace(b"cover 6", b"cover 5"))[1:], (said, 1))
+    said = "the listing is of another job: 2 boards, 3 steps and 2 links, the job has 8, 16 and 26\n"
+    hold("tools/gantt of another job", run("gantt", EXAMPLES / "ring.job", data=plan.read_bytes()), (b"", said, 1))
+    hold("tools/gantt of a listing alone", run("gantt", data=plan.read_bytes())[1:], ("", 0))
+    closed = subprocess.run(f"'{sys.executable}' '{TOP}/tools/job' show '{job}' 2>&1 >&-", shell=True, capture_output=True, text=True)
+    hold("tools/job with no output", (closed.stdout, closed.returncode), ("standard output: Bad file descriptor\n", 1))
+
+
+def main():
+    try:
+        hold("the examples", sorted(file.stem for file in EXAMPLES.glob("*.txt")), NAMES)
+        for name in NAMES:
+            hold_example(name)
+        hold_texts()
+        hold_files()
+        walked = hold_walks()
+        hold_programs()
+    except Differs as trouble:
+        print(f"examples: FAILED: {trouble}")
+        return 1
+    print(f"examples: {len(NAMES)} jobs with text, plan and chart, {len(BAD_TEXTS)} bad texts, {len(BAD_FILES)} bad files, "
+          f"{FILES} random files, {walked} walks: 0 differ")
+    return 0
+
+
+if __name__ == "__main__":
+    sys.exit(main())

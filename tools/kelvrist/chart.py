@@ -1,0 +1,222 @@
+"""The drawing of a plan: a row a board, a box a step, a line a message bundle between boards, the cover's chain in orange."""
+from html import escape
+
+from kelvrist.jobfile import WIRINGS
+from kelvrist.walk import bundle_time
+
+LEFT, RIGHT = 78, 44
+LETTER, DIGIT = 6.6, 7.8  # about the width of a letter, and of a digit where it has to fit
+STYLE = """
+text { font: 12px system-ui, -apple-system, 'Segoe UI', 'DejaVu Sans', Arial, sans-serif; fill: #24292f; }
+.title { font-size: 16px; font-weight: 600; }
+.note { fill: #57606a; }
+.wrong { fill: #b3261e; font-weight: 600; }
+.row { fill: #f3f5f7; }
+.grid { stroke: #d0d7de; stroke-width: 1; }
+.end { stroke: #24292f; stroke-width: 1.5; stroke-dasharray: 2 3; }
+.step { fill: #8cc4ee; stroke: #1f5f96; stroke-width: 1; }
+.step.chain { fill: #f2a93b; stroke: #8a3d00; stroke-width: 2; }
+.label { text-anchor: middle; pointer-events: none; paint-order: stroke; stroke: #8cc4ee; stroke-width: 3px; }
+.label.chain { font-weight: 700; stroke: #f2a93b; }
+.message { fill: none; stroke: #57606a; stroke-width: 1; }
+.link { fill: none; stroke: #c2410c; stroke-width: 2.4; }
+.reckoned { fill: none; stroke: #c2410c; stroke-width: 1.8; stroke-dasharray: 5 4; }
+.there { fill: #ffffff; stroke: #c2410c; stroke-width: 1.8; }
+"""
+
+
+def short(number):
+    """A coordinate, to a tenth."""
+    return f"{number:.1f}".removesuffix(".0")
+
+
+def tag(name, title=None, text=None, **attributes):
+    """An element. `cls` is its class; a number is a coordinate."""
+    words = []
+    for key, value in attributes.items():
+        key = "class" if key == "cls" else key.replace("_", "-")
+        words.append(f' {key}="{short(value) if isinstance(value, float) else escape(str(value))}"')
+    inside = (f"<title>{escape(title, quote=False)}</title>" if title else "") + escape(text or "", quote=False)
+    return f"<{name}{''.join(words)}>{inside}</{name}>" if inside else f"<{name}{''.join(words)}/>"
+
+
+def some(count, what):
+    """So many of a thing."""
+    return f"{count:,} {what}" + ("" if count == 1 else "s")
+
+
+def path(*points):
+    """The way through some points."""
+    return "M" + " L".join(f"{short(x)} {short(y)}" for x, y in points)
+
+
+def tick_width(span, most):
+    """The least of 1, 2, 5, 10, 20, 50 .. that parts the time into at most so many parts."""
+    width = 1
+    while span > most * width:
+        width = width * 5 // 2 if str(width)[0] == "2" else width * 2
+    return width
+
+
+class Chart:
+    """A plan and where things stand on the page. `job` and `moves` are none where no job file is given."""
+
+    def __init__(self, listing, job=None, moves=None):
+        self.listing, self.steps, self.job, self.moves = listing, listing.steps, job, moves or []
+        n = listing.boards
+        self.box, self.pitch = (34, 54) if n <= 5 else (28, 46) if n <= 9 else (22, 38)
+        most = max(sum(row.board == p for row in self.steps) for p in range(n))
+        self.width = max(840, min(1900, 48 * most))
+        reckoned = [self.steps[move.predecessor].finish + move.time for move in self.moves]
+        self.span = min(max([listing.end] + reckoned), -(-listing.end * 5 // 4))
+        self.chain = {row for move in self.moves for row in (move.step, move.predecessor)}
+        if job and not self.moves:
+            self.chain = {max(self.steps, key=lambda row: row.finish).step}
+        self.faint = 1 if listing.links <= 60 else 0.6 if listing.links <= 250 else 0.3
+        self.top = 100 if job else 78
+        self.bottom = self.top + n * self.pitch
+
+    def x(self, tick):
+        return LEFT + self.width * tick / self.span
+
+    def y(self, board):
+        """The upper edge of a board's boxes."""
+        return float(self.top + board * self.pitch + (self.pitch - self.box) // 2)
+
+    # ---- the parts of the drawing, each a list of elements
+
+    def rows(self):
+        for p in range(self.listing.boards):
+            yield tag("rect", cls="row", x=LEFT, y=self.y(p), width=self.width, height=self.box)
+            yield tag("text", x=LEFT - 12, y=self.y(p) + self.box / 2 + 4, text_anchor="end", text=f"board {p}")
+
+    def axis(self):
+        width = tick_width(self.span, self.width / max(70, 20 + LETTER * len(f"{self.span:,}")))
+        for t in range(0, self.span + 1, width):
+            yield tag("line", cls="grid", x1=self.x(t), y1=float(self.top), x2=self.x(t), y2=float(self.bottom + 4))
+            yield tag("text", cls="note", x=self.x(t), y=self.bottom + 19, text_anchor="middle", text=f"{t:,}")
+        yield tag("text", cls="note", x=LEFT - 12, y=self.bottom + 19, text_anchor="end", text="ticks")
+        end = self.x(self.listing.end)
+        yield tag("line", cls="end", x1=end, y1=float(self.top), x2=end, y2=float(self.bottom + 4))
+
+    def boxes(self):
+        for row in self.steps:
+            chain = " chain" if row.step in self.chain else ""
+            wide = self.x(row.finish) - self.x(row.start)
+            title = f"step {row.step}: board {row.board}, start {row.start}, finish {row.finish}"
+            thin = {"style": "stroke-width: 0.4"} if wide < 6 else {}
+            yield tag("rect", title, cls="step" + chain, x=self.x(row.start), y=self.y(row.board), width=max(wide, 0.6), height=self.box,
+                      rx=min(3.0, wide / 4), **thin)
+
+    def labels(self):
+        """The steps' numbers, where a box has room for one. They stand above the lines, with the box's colour around them."""
+        for row in self.steps:
+            middle, wide = self.x((row.start + row.finish) / 2), self.x(row.finish) - self.x(row.start)
+            if wide >= 4 + DIGIT * len(str(row.step)):
+                chain = " chain" if row.step in self.chain else ""
+                yield tag("text", cls="label" + chain, x=middle, y=self.y(row.board) + self.box / 2 + 4, text=str(row.step))
+
+    def way(self, before, arrival, row):
+        """The way of a bundle: aslant until it is there, then along the row's edge until the step starts."""
+        down = row.board > before.board
+        leave, reach = self.y(before.board) + self.box * down, self.y(row.board) + self.box * (not down)
+        edge = reach - 4 if down else reach + 4
+        if before.board == row.board:
+            if not any(other.board == row.board and before.finish <= other.start < row.start for other in self.steps):
+                leave = reach = edge = self.y(row.board) + self.box / 2
+            else:
+                leave, arrival = reach, before.finish
+        return path((self.x(before.finish), leave), (self.x(arrival), edge), (self.x(row.start), edge), (self.x(row.start), reach))
+
+    def messages(self):
+        for link in self.job.links if self.job else []:
+            before, row = self.steps[link[0]], self.steps[link[1]]
+            if before.board != row.board:
+                there = before.finish + bundle_time(self.job, link, before.board, row.board)
+                title = (f"link {link[0]} to {link[1]}: {some(link[2], 'message')}, from board {before.board} at {before.finish} "
+                         f"to board {row.board} at {there}")
+                yield tag("path", title, cls="message", stroke_opacity=self.faint, d=self.way(before, there, row))
+
+    def reckoned(self, move):
+        """The way of a move to its idle board, where that is neither the sender's nor the receiver's: from, to, and whether the
+        drawing reaches so far."""
+        before, row = self.steps[move.predecessor], self.steps[move.step]
+        if move.board in (before.board, row.board):
+            return None
+        there, part = before.finish + move.time, 1
+        if there > self.span:
+            part = (self.span - before.finish) / move.time
+        leave, reach = self.y(before.board) + self.box * (move.board > before.board), self.y(move.board) + self.box / 2
+        return (self.x(before.finish), leave), (self.x(before.finish + part * move.time), leave + part * (reach - leave)), part == 1
+
+    def walked(self):
+        """Each move of the walk: the link that it goes back along, and the way to the idle board."""
+        counts = {link[:2]: link for link in self.job.links} if self.job else {}
+        for move in self.moves:
+            before, row = self.steps[move.predecessor], self.steps[move.step]
+            there = before.finish + bundle_time(self.job, counts[move.predecessor, move.step], before.board, row.board)
+            title = (f"the walk goes from step {move.step} back to {move.predecessor}: board {move.board} is idle at tick {move.tick}, "
+                     f"and messages take {some(move.time, 'tick')} to it")
+            yield tag("path", title, cls="link", d=self.way(before, there, row))
+            leave, reach, whole = self.reckoned(move) or (None, None, False)
+            if leave:
+                yield tag("path", title, cls="reckoned", d=path(leave, reach))
+            if whole:
+                yield tag("circle", title, cls="there", cx=reach[0], cy=reach[1], r=4)
+
+    def captions(self):
+        """The lines above the plan, each with its class."""
+        listing = self.listing
+        yield "title", f"end {listing.end:,}   cover {listing.cover:,}   dearest {listing.dearest:,}".replace("   ", " \u00a0 ")
+        rack = f", {WIRINGS[self.job.rack[1]]}, unit cost {self.job.rack[2]}" if self.job else ""
+        yield "note", f"{some(listing.boards, 'board')}{rack}; {some(len(self.steps), 'step')}, {some(listing.links, 'link')}"
+        if not self.job:
+            return
+        total = sum(move.time for move in self.moves)
+        if total != listing.cover:
+            yield "wrong", f"the listing's cover is {listing.cover:,}, but the walk's sum is {total:,}"
+        else:
+            yield "note", self.walk_words()
+
+    def walk_words(self):
+        """The walk in words, as far as it fits."""
+        words = f"cover's walk: step {self.moves[0].step}" if self.moves else "cover's walk: no tick is short before the step that finishes last"
+        for at, move in enumerate(self.moves):
+            more = f"{', back to' if at == 0 else ','} {move.predecessor} ({move.time:,})"
+            if LETTER * (len(words) + len(more)) > self.width - 90:
+                return f"{words} and {len(self.moves) - at} more"
+            words += more
+        return words
+
+    def legend(self):
+        """What stands for what."""
+        x, y = float(LEFT), float(self.bottom + 46)
+        for cls, text in self.legend_words():
+            if cls.startswith("step"):
+                yield tag("rect", cls=cls, x=x, y=y - 11, width=22, height=14, rx=3)
+            else:
+                yield tag("path", cls=cls, d=path((x, y - 4), (x + 22, y - 4)))
+            yield tag("text", cls="note", x=x + 30, y=y, text=text)
+            x += 30 + LETTER * len(text) + 24
+
+    def legend_words(self):
+        yield "step", "step"
+        if self.job:
+            yield "step chain", "step on the cover's chain"
+            yield "message", "messages"
+        if self.moves:
+            yield "link", "link of the chain"
+        if any(self.reckoned(move) for move in self.moves):
+            yield "reckoned", "its time to the idle board"
+        yield "end", "end"
+
+    def svg(self):
+        """The whole drawing."""
+        width, height = LEFT + self.width + RIGHT, self.bottom + 64
+        lines = [f'<svg xmlns="http://www.w3.org/2000/svg" width="{width}" height="{height}" viewBox="0 0 {width} {height}" role="img" '
+                 f'aria-label="A plan of {len(self.steps)} steps on {self.listing.boards} boards">', f"<style>{STYLE}</style>"]
+        lines.append(tag("rect", x="0.5", y="0.5", width=width - 1, height=height - 1, rx=8, fill="#ffffff", stroke="#d0d7de"))
+        lines += [tag("text", cls=cls, x=20, y=32 + 22 * at, text=text) for at, (cls, text) in enumerate(self.captions())]
+        for part in (self.rows, self.axis, self.messages, self.boxes, self.walked, self.labels, self.legend):
+            lines += part()
+        return "\n".join(lines) + "\n</svg>\n"

@@ -1,0 +1,48 @@
+"""Link costs, and the walk that gives the cover C, as document 01 words them."""
+from typing import NamedTuple
+
+from kelvrist.inout import Trouble
+
+
+class Move(NamedTuple):
+    """A move of the walk: from a step back to a predecessor, for the sake of a tick in which a board is idle."""
+    step: int
+    tick: int
+    board: int
+    predecessor: int
+    time: int
+
+
+def hops(job, p, q):
+    boards, wiring, _ = job.rack
+    d = abs(p - q)
+    return 0 if p == q else (1, bin(p ^ q).count("1"), min(d, boards - d))[wiring]
+
+
+def bundle_time(job, link, p, q):
+    """What a link's messages take from board p to board q."""
+    return link[2] * job.rack[2] * hops(job, p, q)
+
+
+def latest_idle(steps, board, limit):
+    """The latest tick before `limit` in which the board runs nothing, or -1."""
+    t = limit - 1
+    while (running := [row for row in steps if row.board == board and row.start <= t < row.finish]):
+        t = running[0].start - 1
+    return t
+
+
+def walk(job, steps):
+    """The moves of the walk, from the step that finishes last. Of equals `max` takes the first, which has the lowest number."""
+    at, moves = max(steps, key=lambda row: row.finish), []
+    while True:
+        board = max(range(job.rack[0]), key=lambda p: latest_idle(steps, p, at.start))
+        tick = latest_idle(steps, board, at.start)
+        if tick < 0:
+            return moves
+        times = {link[0]: bundle_time(job, link, steps[link[0]].board, board) for link in job.links if link[1] == at.step}
+        if not times:
+            raise Trouble(f"this plan is not the planner's: board {board} is idle at tick {tick}, and step {at.step} waits for nothing")
+        before = max(times, key=lambda t: steps[t].finish + times[t])
+        moves.append(Move(at.step, tick, board, before, times[before]))
+        at = steps[before]
