@@ -25,8 +25,8 @@ use Rattle.schedule.specs.Plan.{called, planCall}
 use Rattle.schedule.specs.Cover.{covered, coverCall}
 use Rattle.schedule.specs.Check.{checkFor, checkCall}
 use Rattle.schedule.specs.Laws.Reading.{refused-is}
+use Rattle.kelvrist.specs.PlanBytes.{returned, processorIn, startIn, planBytesCall, checkBytesFor, checkBytesCall}
 use Rattle.demands.specs.Laws.Judged.{read-answers, check-refuses, check-answers, check-returns, check-returns-number, write-answers, write-leaves}
-use Rattle.schedule.specs.PlanBytes.{returned, processorIn, startIn, planBytesCall, checkBytesFor, checkBytesCall}
 use Rattle.demands.specs.Laws.Refused.{plan-answered, plan-number, plan-cause, plan-refused, cover-answered, cover-cause, cover-refused}
 use Rattle.demands.specs.Laws.Refused.{plan-as-cover, cover-as-plan, bytes-answered, bytes-number, bytes-cause, bytes-refused}
 

@@ -25,8 +25,9 @@ use Rattle.schedule.specs.declared.Checked.the-variants.{Yes}
 use Rattle.schedule.specs.Plan.{planCall}
 use Rattle.schedule.specs.Cover.{coverCall}
 use Rattle.schedule.specs.Check.{checkCall}
-use Rattle.schedule.specs.PlanBytes.{processorIn, startIn, planBytesCall, checkBytesCall}
-use Rattle.schedule.specs.OwnPlan.{slices-accepted, bytes-accepted}
+use Rattle.schedule.specs.OwnPlan.{slices-accepted}
+use Rattle.kelvrist.specs.PlanBytes.{processorIn, startIn, planBytesCall, checkBytesCall}
+use Rattle.kelvrist.specs.OwnPlan.{bytes-accepted}
 use Rattle.demands.specs.Laws.Calls.{planned-as, covered-as}
 use Rattle.demands.specs.Laws.Kept.{slices-hold, same-slices, measured, bytes-as, yes-keeps, zero-keeps}
 

@@ -1,10 +1,10 @@
--- The calls on inputs of document 01: its cases A and H, and the small inputs of the refusal table for 9 to 13, held to the definitions by computing them.
+-- The calls on inputs of document 01: its cases A and H, and the small input of the refusal table for 9, held to the definitions by computing them.
 use mathlib.Core.Option.{orElse, bind}
 use mathlib.Core.Path.{_≡_, refl}
 use mathlib.Core.List.{List, [], _∷_, _++_, map, flatMap}
 use Prim.Native.Nat.{ℕ}
 use lib.ListN.{replicate}
-use Rattle.job.specs.Number.{number, bytes}
+use Rattle.job.specs.Number.{number}
 use Rattle.job.specs.Job.{Job, blank}
 use Rattle.job.specs.Record.{kindOf, bodyLength, platformIn, durationIn, edgeIn, noRack, stands, full, platformInRange, durationInRange, countInRange, inRange, joins, endsRight, rises, aboveLast, inOrder, added}
 use Rattle.job.specs.Read.{after, judged, records, readJob}
@@ -23,17 +23,16 @@ use Rattle.schedule.specs.declared.Checked.the-variants.{Yes, Refused as
 use Rattle.schedule.specs.Plan.{called, filled, scratchAt, planAccepted, startOf, processorOf, planFor, planCall}
 use Rattle.schedule.specs.Cover.{covered, coverAccepted, coverFor, coverCall}
 use Rattle.schedule.specs.Check.{checkOf, checkedAs, checkFor, checkCall}
-use Rattle.schedule.specs.PlanBytes.{returned, taskBytes, planBytes, processorIn, startIn, planBytesFor, planBytesCall, numberOf, checkBytesFor, checkBytesCall}
 
 -- a rack of two boards, flat, c = 2, and steps of so many ticks
-abbrev rack-2 : List ℕ
+abbrev pub rack-2 : List ℕ
 rack-2 = 1 ∷ 2 ∷ 0 ∷ 2 ∷ []
 
-abbrev step : ℕ → List ℕ
+abbrev pub step : ℕ → List ℕ
 step d = 2 ∷ d ∷ 0 ∷ 0 ∷ 0 ∷ []
 
 -- 01: the file of case A
-abbrev file-a : List ℕ
+abbrev pub file-a : List ℕ
 file-a = rack-2 ++ (step 4 ++ (step 3 ++ (step 2 ++ (3 ∷ 0 ∷ 2 ∷ 1 ∷ 0 ∷ 3 ∷ 1 ∷ 2 ∷ 3 ∷ 0 ∷ 4 ∷ []))))
 
 abbrev job-a : Job
@@ -47,16 +46,9 @@ job-a = record {
 abbrev file-h : List ℕ
 file-h = 1 ∷ 2 ∷ 0 ∷ 5 ∷ (step 3 ++ (step 2 ++ (step 2 ++ (3 ∷ 0 ∷ 1 ∷ 1 ∷ 0 ∷ 3 ∷ 0 ∷ 2 ∷ 1 ∷ 0 ∷ 4 ∷ []))))
 
--- two steps of five ticks; the same with a link of one message
-abbrev apart : List ℕ
+-- two steps of five ticks
+abbrev pub apart : List ℕ
 apart = rack-2 ++ (step 5 ++ (step 5 ++ (4 ∷ [])))
-
-abbrev linked : List ℕ
-linked = rack-2 ++ (step 5 ++ (step 5 ++ (3 ∷ 0 ∷ 1 ∷ 1 ∷ 0 ∷ 4 ∷ [])))
-
--- a task's five bytes of a plan: its board, and a start below 256
-abbrev at : ℕ → ℕ → List ℕ
-at board start = board ∷ start ∷ 0 ∷ 0 ∷ 0 ∷ []
 
 -- the arrivals of case A as the scratch has them: step 2 at boards 0 and 1, and 0 where there is no predecessor, no board or no step
 abbrev scratch-a : List ℕ
@@ -85,20 +77,5 @@ pub cases-hold :
     × (checkCall apart (0 ∷ []) (0 ∷ 1 ∷ []) ≡ NotChecked 9)
     × (checkCall apart (0 ∷ 0 ∷ []) (0 ∷ []) ≡ NotChecked 9)
     × (checkCall apart (0 ∷ 5 ∷ 0 ∷ []) (0 ∷ 0 ∷ 99 ∷ []) ≡ Yes)
-    -- the planner from C: fifteen bytes are filled and the others left; 9 with fewer than fifteen; the reader's number is passed on
-    × (planBytesCall file-a (replicate 17 7) ≡ returned 0 (at 0 0 ++ (at 1 0 ++ (at 1 6 ++ (7 ∷ 7 ∷ [])))))
-    × (planBytesCall file-a (replicate 14 7) ≡ returned 9 (replicate 14 7))
-    × (planBytesCall (1 ∷ 2 ∷ 0 ∷ []) (replicate 17 7) ≡ returned 1 (replicate 17 7))
-    -- the checker from C: case A's own plan; 9, 10, 11 and the last start that is taken; 12 and finish equal to start; 13 and a message in time; the reader's number
-    × (checkBytesCall file-a (at 0 0 ++ (at 1 0 ++ at 1 6)) ≡ 0)
-    × (checkBytesCall apart (at 0 0 ++ (1 ∷ 0 ∷ 0 ∷ 0 ∷ [])) ≡ 9)
-    × (checkBytesCall apart (at 0 0 ++ at 2 0) ≡ 10)
-    × (checkBytesCall apart (at 0 0 ++ (1 ∷ 1 ∷ 70 ∷ 195 ∷ 35 ∷ [])) ≡ 11)
-    × (checkBytesCall apart (at 0 0 ++ (1 ∷ 0 ∷ 70 ∷ 195 ∷ 35 ∷ [])) ≡ 0)
-    × (checkBytesCall apart (at 0 0 ++ at 0 0) ≡ 12)
-    × (checkBytesCall apart (at 0 0 ++ at 0 5) ≡ 0)
-    × (checkBytesCall linked (at 0 0 ++ at 1 6) ≡ 13)
-    × (checkBytesCall linked (at 0 0 ++ at 1 7) ≡ 0)
-    × (checkBytesCall (9 ∷ []) [] ≡ 2)
-unfolding planCall planFor planAccepted coverCall coverFor coverAccepted filled scratchAt checkCall checkFor checkedAs checkOf planBytesCall planBytesFor planBytes taskBytes bytes startOf processorOf checkBytesCall checkBytesFor numberOf processorIn startIn number readJob blank records judged after kindOf bodyLength stands noRack full inRange platformInRange durationInRange countInRange endsRight joins inOrder aboveLast rises added platformIn durationIn edgeIn flatMap upto any all filter greatest keep best duration into messageTime placed placementOf messageTimeTo arrival end scheduleOf hops cost atMost move settle nextMoment free finished ready pair pairs choice complete round run planned running busy idle someIdle latestIdleTick lowestIdle later latestInto back walk lastTask cover greatestCost dearestTo dearest firstAnswer misplaced overlap early check instance orElse bind
-cases-hold = (refl, refl, refl, refl, refl, refl, refl, refl, refl, refl, refl, refl, refl, refl, refl, refl, refl, refl, refl, refl, refl, refl, refl, refl, refl, refl, refl, refl, refl, refl)
+unfolding planCall planFor planAccepted coverCall coverFor coverAccepted filled scratchAt checkCall checkFor checkedAs checkOf startOf processorOf number readJob blank records judged after kindOf bodyLength stands noRack full inRange platformInRange durationInRange countInRange endsRight joins inOrder aboveLast rises added platformIn durationIn edgeIn flatMap upto any all filter greatest keep best duration into messageTime placed placementOf messageTimeTo arrival end scheduleOf hops cost atMost move settle nextMoment free finished ready pair pairs choice complete round run planned running busy idle someIdle latestIdleTick lowestIdle later latestInto back walk lastTask cover greatestCost dearestTo dearest firstAnswer misplaced overlap early check instance orElse bind
+cases-hold = (refl, refl, refl, refl, refl, refl, refl, refl, refl, refl, refl, refl, refl, refl, refl, refl, refl)

@@ -23,6 +23,11 @@ unfoldable pub checkedAs : Option ℕ → Checked
 checkedAs none = Yes
 checkedAs (some k) = Refused k
 
+-- and as a number, 0 for a yes
+unfoldable pub numberOf : Option ℕ → ℕ
+numberOf none = 0
+numberOf (some k) = k
+
 -- 01: "A plan slice of the checker shorter than m is 9; places past m are not read"; a refused job "is passed on with the reader's own number"
 unfoldable pub checkFor : Answer → List ℕ → List ℕ → Checked
 checkFor (accepted j) starts processors =

@@ -1,8 +1,6 @@
 pub mod Lists
 pub mod Most
 pub mod Lifted
-pub mod Encoded
-pub mod Decoded
 pub mod First
 pub mod Filled
 pub mod Tried

@@ -1,9 +1,7 @@
 pub mod Plan
 pub mod Cover
 pub mod Check
-pub mod PlanBytes
 pub mod Cases
-pub mod Numbers
 pub mod OwnPlan
 pub mod Pass
 pub mod CoverPass

@@ -1,19 +1,16 @@
--- The checker accepts what the planner leaves, in the slices and in the bytes, for every file and whatever they held before.
+-- The checker accepts what the planner leaves in the slices, for every file and whatever they held before.
 use mathlib.Core.Bool.{true, false}
 use mathlib.Core.Path.{_≡_, refl}
 use mathlib.Core.List.{List}
 use Prim.Native.Nat.{ℕ}
-use native.Mathlib.Omega.{arith}
 use Rattle.job.specs.Read.{Answer, accepted, refused, readJob}
 use Rattle.job.specs.Accepted.{accepted-job}
-use Rattle.job.specs.Refusal.{read-numbers}
 use Rattle.job.specs.Laws.Tests.{never}
 use Rattle.schedule.specs.declared.Planned.the-variants.{Plan}
 use Rattle.schedule.specs.declared.Checked.the-variants.{Yes}
 use Rattle.schedule.specs.Plan.{planFor, planCall}
 use Rattle.schedule.specs.Check.{checkFor, checkCall}
-use Rattle.schedule.specs.PlanBytes.{planBytesFor, planBytesCall, checkBytesFor, checkBytesCall}
-use Rattle.schedule.specs.Laws.OwnPlan.{slices-yes, bytes-yes}
+use Rattle.schedule.specs.Laws.OwnPlan.{slices-yes}
 
 -- where the planner plans, the checker says yes to its starts and processors
 pub slices-accepted : (file starts processors scratch : List ℕ) (m e : ℕ) → planCall file starts processors scratch .answer ≡ Plan m e
@@ -25,12 +22,3 @@ slices-accepted file starts processors scratch m e h = go (readJob file) refl h
         → checkFor a (planFor a starts processors scratch .starts) (planFor a starts processors scratch .processors) ≡ Yes
     go (accepted j) r w = slices-yes j (accepted-job file j r) starts processors scratch m e w
     go (refused k) r w = let z : false ≡ true = cc in never z
-
--- and from C: where `kelvrist_plan` returns 0, `kelvrist_check` returns 0 for the bytes that it leaves
-pub bytes-accepted : (file plan : List ℕ) → planBytesCall file plan .number ≡ 0 → checkBytesCall file (planBytesCall file plan .plan) ≡ 0
-unfolding planBytesCall planBytesFor checkBytesCall
-bytes-accepted file plan h = go (readJob file) refl h
-  where
-    go : (a : Answer) → readJob file ≡ a → planBytesFor a plan .number ≡ 0 → checkBytesFor a (planBytesFor a plan .plan) ≡ 0
-    go (accepted j) r w = bytes-yes j (accepted-job file j r) plan w
-    go (refused k) r w = absurd (omega (arith, read-numbers file k r, w))

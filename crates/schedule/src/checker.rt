@@ -7,8 +7,7 @@ ghost use Prim.Native.Nat.{ℕ, _≤_, _<_};
 ghost use lib.ListN.{length, getD};
 ghost use Rattle.job.specs.Write.{heldJob};
 ghost use Rattle.etf.specs.OfJob.{instance};
-ghost use Rattle.schedule.specs.Check.{checkOf};
-ghost use Rattle.schedule.specs.PlanBytes.{numberOf};
+ghost use Rattle.schedule.specs.Check.{checkOf, numberOf};
 ghost use Rattle.schedule.specs.Pass.{InArrays, Judgeable, First, someIn, placeTroubles, overlapsLater, earlyAt};
 
 // The first task whose processor is not below n, or `tasks`.

@@ -1,8 +1,7 @@
-// The planner, the cover and the checker, for Rattle and for C (document 01).
+// The planner, the cover and the checker (document 01).
 mod chains;
 mod checker;
 mod costs;
-mod encoding;
 mod graph;
 mod hypercube;
 mod number;
@@ -19,7 +18,6 @@ ghost use Rattle.etf.specs.OfJob.{instance};
 ghost use Rattle.schedule.specs.Plan.{called, filled, planCall};
 ghost use Rattle.schedule.specs.Cover.{covered, coverCall};
 ghost use Rattle.schedule.specs.Check.{checkCall};
-ghost use Rattle.schedule.specs.PlanBytes.{returned, planBytesCall, checkBytesCall};
 ghost use Rattle.schedule.specs.Pass.{InArrays, Room, shortOf, verdictNumber};
 ghost use Rattle.schedule.specs.CoverPass.{Measured};
 
@@ -214,69 +212,4 @@ pub fn check(file: &[u8], starts: &[u32], processors: &[u8]) -> Checked
         return Checked::Refused(trouble);
     }
     Checked::Yes
-}
-
-// Plans the job of `job` into 5 bytes a task of `plan`: 0, or the refusal's number.
-#[no_mangle]
-pub extern "C" fn kelvrist_plan(job: &[u8], plan: &mut [u8]) -> u32
-    ensures { λ r. ⌜ returned r (now (plan .exit)) ≡ planBytesCall (now (job .entry)) (now (plan .entry)) ⌝ }
-{
-    let r = job::read(job);
-    let verdict = r.verdict;
-    let Verdict::Counts { tasks, edges } = verdict else {
-        return number::wide8(refusal(verdict));
-    };
-    if plan.len() < 5 * tasks {
-        return 9;
-    }
-    let mut starts = [0u32; 256];
-    let mut processors = [0u8; 256];
-    let mut arrivals = [0u32; 4096];
-    let costs = costs::square(r.platform);
-    planner::run(
-        r.platform,
-        tasks,
-        edges,
-        &r.durations,
-        &r.from,
-        &r.to,
-        &r.counts,
-        costs,
-        &mut starts,
-        &mut processors,
-        &mut arrivals,
-    );
-    encoding::put(tasks, &starts, &processors, plan);
-    0
-}
-
-// Judges 5 bytes a task of `plan` for the job of `job`: 0 for a yes, or the refusal's number.
-#[no_mangle]
-pub extern "C" fn kelvrist_check(job: &[u8], plan: &[u8]) -> u32
-    ensures { λ r. ⌜ r ≡ checkBytesCall (now (job .entry)) (now (plan .entry)) ⌝ }
-{
-    let r = job::read(job);
-    let verdict = r.verdict;
-    let Verdict::Counts { tasks, edges } = verdict else {
-        return number::wide8(refusal(verdict));
-    };
-    if plan.len() < 5 * tasks {
-        return 9;
-    }
-    let mut starts = [0u32; 256];
-    let mut processors = [0u8; 256];
-    encoding::get(tasks, plan, &mut starts, &mut processors);
-    let costs = costs::square(r.platform);
-    number::wide8(checker::trouble(
-        r.platform,
-        tasks,
-        edges,
-        &r.durations,
-        &r.from,
-        &r.to,
-        &r.counts,
-        costs,
-        &starts,
-        &processors,
-    ))
 }

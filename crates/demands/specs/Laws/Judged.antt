@@ -27,8 +27,8 @@ use Rattle.etf.specs.Verdict.{number-only}
 use Rattle.etf.specs.Laws.Tests.{le-or-lt}
 use Rattle.schedule.specs.declared.Checked.{Checked}
 use Rattle.schedule.specs.declared.Checked.the-variants.{Yes, Refused as NotChecked}
-use Rattle.schedule.specs.Check.{checkOf, checkedAs, checkFor, checkCall}
-use Rattle.schedule.specs.PlanBytes.{processorIn, startIn, numberOf, checkBytesFor, checkBytesCall}
+use Rattle.schedule.specs.Check.{checkOf, checkedAs, numberOf, checkFor, checkCall}
+use Rattle.kelvrist.specs.PlanBytes.{processorIn, startIn, checkBytesFor, checkBytesCall}
 
 -- ---- the reader
 

@@ -4,7 +4,7 @@ use mathlib.Core.Logic.{_↔_, _⊎_, inl, inr}
 use mathlib.Core.Option.{Option, none, some}
 use mathlib.Core.Path.{_≡_, refl, ap, sym, _∙_}
 use mathlib.Core.List.{List, _++_}
-use Prim.Native.Nat.{ℕ, _*_, _^_, _≤_, _<_}
+use Prim.Native.Nat.{ℕ, _*_, _≤_, _<_}
 use native.Mathlib.Omega.{arith}
 use borrow.Author.Tests.{lt-ltb, le-ltb}
 use lib.ListN.{length, getD, drop}
@@ -22,16 +22,16 @@ use Rattle.etf.specs.Verdict.{yes-exactly, number-only}
 use Rattle.etf.specs.Walks.{CoverWalk, cover-walk}
 use Rattle.etf.specs.Chains.{none-dearer, one-as-dear}
 use Rattle.etf.specs.OfJob.{instance}
-use Rattle.etf.specs.Jobs.{well-formed, no-finish-passes}
-use Rattle.etf.specs.Laws.Planned.{home}
+use Rattle.etf.specs.Jobs.{well-formed}
 use Rattle.etf.specs.Laws.Tests.{le-or-lt}
 use Rattle.schedule.specs.declared.Checked.the-variants.{Yes}
 use Rattle.schedule.specs.Plan.{startOf, processorOf, planAccepted, planFor, planCall}
 use Rattle.schedule.specs.Cover.{coverAccepted, coverFor}
-use Rattle.schedule.specs.Check.{checkOf, checkedAs, checkFor, checkCall}
-use Rattle.schedule.specs.PlanBytes.{planBytes, processorIn, startIn, planBytesFor, planBytesCall, numberOf, checkBytesFor, checkBytesCall}
+use Rattle.schedule.specs.Check.{checkOf, checkedAs, numberOf, checkFor, checkCall}
 use Rattle.schedule.specs.Laws.Filled.{filled-at}
-use Rattle.schedule.specs.Laws.Decoded.{processor-back, start-back}
+use Rattle.kelvrist.specs.PlanBytes.{planBytes, processorIn, startIn, planBytesFor, planBytesCall, checkBytesFor, checkBytesCall}
+use Rattle.kelvrist.specs.Laws.Decoded.{processor-back, start-back}
+use Rattle.kelvrist.specs.Laws.OwnPlan.{start-fits}
 use Rattle.demands.specs.Laws.Calls.{Short, Fits, short-or-fits, short-true, fits-false, PlannedAs, CoveredAs}
 
 -- ---- the planner's slices
@@ -91,11 +91,6 @@ pub bytes-as : (file plan : List ℕ) → planBytesCall file plan .number ≡ 0 
 unfolding planBytesCall planBytesFor startOf processorOf
 bytes-as file plan h = go (readJob file) refl h
   where
-    start-fits : (j : Job) → readJob file ≡ accepted j → (T : ℕ) → T < tasks (instance j) → startOf (instance j) T < 2 ^ 32
-    start-fits j e T b =
-        let a = accepted-job file j e in
-        omega (arith, no-finish-passes j a (placementOf (planned (instance j)) T) (home (instance j) (well-formed j a) T b .0))
-
     held : (j : Job) → readJob file ≡ accepted j → (5 * tasks (instance j) ≤ length plan) ⊎ (length plan < 5 * tasks (instance j))
         → planBytesFor (accepted j) plan .number ≡ 0 → BytesAs file plan
     held j e (inl p) w =
@@ -105,7 +100,7 @@ bytes-as file plan h = go (readJob file) refl h
         record {
           job = j;
           says = e;
-          starts-hold = λ T b. rw full (start-back (tasks I) (processorOf I) (startOf I) (drop (5 * tasks I) plan) T b (start-fits j e T b));
+          starts-hold = λ T b. rw full (start-back (tasks I) (processorOf I) (startOf I) (drop (5 * tasks I) plan) T b (start-fits j (accepted-job file j e) T b));
           processors-hold = λ T b. rw full (processor-back (tasks I) (processorOf I) (startOf I) (drop (5 * tasks I) plan) T b);
         }
     held j e (inr p) w = let v : _≡_ {A = ℕ} 9 0 = rw (lt-ltb (length plan) (5 * tasks (instance j)) p) at w in absurd (omega arith)

@@ -22,7 +22,7 @@ use Rattle.schedule.specs.declared.Planned.the-variants.{Plan, Refused as NotPl
 use Rattle.schedule.specs.declared.Covered.the-variants.{Cover, Refused as NotCovered}
 use Rattle.schedule.specs.Plan.{PlanCall, called, planAccepted, planFor, planCall}
 use Rattle.schedule.specs.Cover.{CoverCall, covered, coverAccepted, coverFor, coverCall}
-use Rattle.schedule.specs.PlanBytes.{BytesCall, returned, planBytesFor, planBytesCall}
+use Rattle.kelvrist.specs.PlanBytes.{BytesCall, returned, planBytesFor, planBytesCall}
 use Rattle.demands.specs.Laws.Calls.{Short, Fits, short-or-fits, short-true, fits-false}
 
 -- ---- any call on a file: what it is lent is too small for some jobs, and has room for others

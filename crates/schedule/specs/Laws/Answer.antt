@@ -15,14 +15,14 @@ use lib.ListN.{getD}
 use Rattle.job.specs.Number.{pick}
 use Rattle.job.specs.Job.{Edge}
 use Rattle.job.specs.Write.{values, edgeHeld}
-use Rattle.etf.specs.Lists.{any}
+use Rattle.etf.specs.Lists.{upto, any}
 use Rattle.etf.specs.Instance.{Instance, tasks, messageTime}
 use Rattle.etf.specs.Schedule.{Placement, scheduleOf}
 use Rattle.etf.specs.Checker.{firstAnswer, misplaced, overlap, early, check}
+use Rattle.etf.specs.Laws.Lists.{upto-of, map-same}
 use Rattle.etf.specs.Laws.Tests.{both, first, second, same-test, eq→eqb, le-or-lt}
 use Rattle.etf.specs.Laws.Checker.{overlap-of, overlap-in, early-of, early-in, overlapping, hasty}
-use Rattle.schedule.specs.Check.{checkOf}
-use Rattle.schedule.specs.PlanBytes.{numberOf}
+use Rattle.schedule.specs.Check.{checkOf, numberOf}
 use Rattle.schedule.specs.Pass.{someIn, placeTrouble, placeTroubles, overlapAt, overlapsLater, earlyAt}
 use Rattle.schedule.specs.Laws.Lists.{map-upto}
 use Rattle.schedule.specs.Laws.Progress.{Given}
@@ -254,3 +254,9 @@ module _ {I : Instance} {l : ℕ} {durations from to counts : List ℕ} (G : Giv
         ∙ any-value (edgeHeld from to counts) asked 0 l
         ∙ some-same (λ k. asked (edgeHeld from to counts k)) (earlyAt durations starts processors from to counts costs) 0 l
         (λ k a b. any-pair at (early I (edgeHeld from to counts k)) m ∙ early-is k (omega arith))
+
+-- ---- only the tasks' places count: of plans that are the same on the tasks the checker says the same
+
+pub check-of-same : (I : Instance) (p q s t : ℕ → ℕ) → ((T : ℕ) → T < tasks I → p T ≡ q T) → ((T : ℕ) → T < tasks I → s T ≡ t T) → checkOf I p s ≡ checkOf I q t
+unfolding checkOf scheduleOf
+check-of-same I p q s t e h = ap (check I) (map-same _ _ (upto (tasks I)) (λ T k. rw (e T (upto-of (tasks I) T k), h T (upto-of (tasks I) T k))))

@@ -14,8 +14,7 @@ use Rattle.etf.specs.Instance.{Instance, tasks}
 use Rattle.etf.specs.Schedule.{Placement}
 use Rattle.etf.specs.OfJob.{instance}
 use Rattle.etf.specs.Laws.Checker.{overlapping, hasty}
-use Rattle.schedule.specs.Check.{checkOf}
-use Rattle.schedule.specs.PlanBytes.{numberOf}
+use Rattle.schedule.specs.Check.{checkOf, numberOf}
 use Rattle.schedule.specs.Pass.{InArrays, Judgeable, someIn, placeTroubles, overlapsLater, earlyAt}
 use Rattle.schedule.specs.Laws.Given.{held-tasks, held-processors, given, held-few, cost-at}
 use Rattle.schedule.specs.Laws.Answer.{planOf, InPlace, each-in-place, number-is, overlaps-are, hasty-is}

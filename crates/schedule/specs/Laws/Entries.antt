@@ -1,18 +1,17 @@
--- Each return of the five entries is its row of the call's definition.
+-- Each return of the three entries is its row of the call's definition.
 use mathlib.Core.Bool.{Bool, true, false, _||_}
 use mathlib.Core.Option.{Option, none, some}
 use mathlib.Core.Path.{_≡_, refl, ap, sym, _∙_}
-use mathlib.Core.List.{List, _++_}
-use Prim.Native.Nat.{ℕ, _*_, _≤_, _<_}
+use mathlib.Core.List.{List}
+use Prim.Native.Nat.{ℕ, _≤_, _<_}
 use native.Mathlib.Omega.{arith}
 use borrow.Author.Tests.{lt-ltb, le-ltb, ltb-false}
 use lib.Dec.{ltb}
-use lib.ListN.{length, getD, drop, replicate, length-replicate}
+use lib.ListN.{length, getD}
 use Rattle.job.specs.declared.Verdict.the-variants.{Refused}
 use Rattle.job.specs.declared.Reading.{Reading}
 use Rattle.job.specs.Read.{refused, readJob, readingOf}
 use Rattle.job.specs.Write.{heldJob}
-use Rattle.job.specs.Laws.Lists.{zeros-at}
 use Rattle.job.specs.Laws.Tests.{never}
 use Rattle.etf.specs.Instance.{Instance, tasks}
 use Rattle.etf.specs.Schedule.{scheduleOf}
@@ -23,14 +22,12 @@ use Rattle.schedule.specs.declared.Planned.the-variants.{Plan, Refused a
 use Rattle.schedule.specs.declared.Covered.{Covered}
 use Rattle.schedule.specs.declared.Covered.the-variants.{Refused as NotCovered}
 use Rattle.schedule.specs.declared.Checked.the-variants.{Yes, Refused as NotChecked}
-use Rattle.schedule.specs.Plan.{called, filled, startOf, processorOf, scratchAt, tooShort, planAccepted, planFor, planCall}
+use Rattle.schedule.specs.Plan.{called, filled, scratchAt, tooShort, planAccepted, planFor, planCall}
 use Rattle.schedule.specs.Cover.{covered, coverAccepted, coverFor, coverCall}
-use Rattle.schedule.specs.Check.{checkOf, checkedAs, checkFor, checkCall}
-use Rattle.schedule.specs.PlanBytes.{returned, planBytes, processorIn, startIn, planBytesFor, planBytesCall, numberOf, checkBytesFor, checkBytesCall}
+use Rattle.schedule.specs.Check.{checkOf, checkedAs, numberOf, checkFor, checkCall}
 use Rattle.schedule.specs.Pass.{Room, Ran, shortOf, verdictNumber}
 use Rattle.schedule.specs.CoverPass.{Measured}
 use Rattle.schedule.specs.Laws.Filled.{filled-length, filled-at, filled-filled}
-use Rattle.schedule.specs.Laws.Encoded.{plan-bytes-same, check-of-same}
 use Rattle.schedule.specs.Laws.Reading.{refused-is, Read}
 
 -- ---- the checker's answer as a number: no refusal has the number 0
@@ -77,14 +74,6 @@ cleared-room scratch fits e = let a = fits .0 in let b = fits .1 in let c = fits
   zeros = λ x h. ap (λ (q : List ℕ). getD q x 0) e ∙ filled-at (λ x. 0) 4096 scratch x h;
 }
 
-pub zeros-room : {m : ℕ} → m ≤ 256 → Room m (replicate 256 0) (replicate 256 0) (replicate 4096 0)
-zeros-room h = record {
-  for-starts = omega (arith, length-replicate {A = ℕ} 256 0);
-  for-processors = omega (arith, length-replicate {A = ℕ} 256 0);
-  for-arrivals = omega (arith, length-replicate {A = ℕ} 4096 0);
-  zeros = λ x k. zeros-at 4096 x;
-}
-
 -- ---- a refused file: the reader's number is passed on
 
 module _ (file : List ℕ) {x : Reading} (e : x ≡ readingOf (readJob file)) {k n : ℕ} (v : x .verdict ≡ Refused k) (g : n ≡ verdictNumber (x .verdict)) where
@@ -102,14 +91,6 @@ module _ (file : List ℕ) {x : Reading} (e : x ≡ readingOf (readJob file)) {k
   pub check-passes-on : (starts processors : List ℕ) → NotChecked n ≡ checkCall file starts processors
   unfolding checkCall checkFor
   check-passes-on starts processors = rw file-refused
-
-  pub plan-bytes-passes-on : (plan : List ℕ) → returned n plan ≡ planBytesCall file plan
-  unfolding planBytesCall planBytesFor
-  plan-bytes-passes-on plan = rw file-refused
-
-  pub check-bytes-passes-on : (plan : List ℕ) → n ≡ checkBytesCall file plan
-  unfolding checkBytesCall checkBytesFor
-  check-bytes-passes-on plan = rw file-refused
 
 -- ---- an accepted file
 
@@ -184,33 +165,3 @@ module _ {file : List ℕ} {x : Reading} {m l : ℕ} (K : Read file x m l) where
       pub check-yes : t ≡ 0 → Yes ≡ checkCall file starts processors
       unfolding checkCall checkFor
       check-yes h = rw (K .says) (simp (tasks-is, le-ltb _ _ a, le-ltb _ _ b) (no-number (checkOf I (λ T. getD processors T 0) (λ T. getD starts T 0)) (never-zero I (λ T. getD processors T 0) (λ T. getD starts T 0)) (says ∙ h)))
-
-  module _ (plan : List ℕ) where
-    pub plan-bytes-short : length plan < 5 * m → returned 9 plan ≡ planBytesCall file plan
-    unfolding planBytesCall planBytesFor
-    plan-bytes-short h = rw (K .says) (simp (tasks-is, lt-ltb _ _ h))
-
-    pub plan-bytes-done : {r : ℕ} {starts starts′ processors processors′ arrivals arrivals′ plan′ : List ℕ} → 5 * m ≤ length plan
-        → Ran H m r starts starts′ processors processors′ arrivals arrivals′
-        → plan′ ≡ planBytes m (λ T. getD processors′ T 0) (λ T. getD starts′ T 0) ++ drop (5 * m) plan
-        → returned 0 plan′ ≡ planBytesCall file plan
-    unfolding planBytesCall planBytesFor
-    plan-bytes-done {r} {starts} {starts′} {processors} {processors′} a R d =
-        let e = plan-bytes-same m (λ T. getD processors′ T 0) (processorOf I) (λ T. getD starts′ T 0) (startOf I)
-        (λ T h. ap (λ (q : List ℕ). getD q T 0) (R .processors-are) ∙ (filled-at (processorOf H) m processors T h ∙ ap (λ (J : Instance). processorOf J T) same))
-        (λ T h. ap (λ (q : List ℕ). getD q T 0) (R .starts-are) ∙ (filled-at (startOf H) m starts T h ∙ ap (λ (J : Instance). startOf J T) same)) in
-        rw (K .says) (simp (tasks-is, le-ltb _ _ a) (ap (returned 0) (d ∙ ap (λ (q : List ℕ). q ++ drop (5 * m) plan) e)))
-
-    pub check-bytes-short : length plan < 5 * m → 9 ≡ checkBytesCall file plan
-    unfolding checkBytesCall checkBytesFor
-    check-bytes-short h = rw (K .says) (simp (tasks-is, lt-ltb _ _ h))
-
-    pub check-bytes-done : {t : ℕ} (starts processors : List ℕ) → 5 * m ≤ length plan
-        → ((T : ℕ) → T < m → (getD starts T 0 ≡ startIn plan T) × (getD processors T 0 ≡ processorIn plan T))
-        → t ≡ numberOf (checkOf H (λ T. getD processors T 0) (λ T. getD starts T 0)) → t ≡ checkBytesCall file plan
-    unfolding checkBytesCall checkBytesFor
-    check-bytes-done starts processors a got g =
-        let e = check-of-same I (λ T. getD processors T 0) (processorIn plan) (λ T. getD starts T 0) (startIn plan)
-        (λ T h. got T (omega (arith, tasks-is)) .1) (λ T h. got T (omega (arith, tasks-is)) .0) in
-        rw (K .says) (simp (tasks-is, le-ltb _ _ a)
-        (g ∙ (ap (λ (J : Instance). numberOf (checkOf J (λ T. getD processors T 0) (λ T. getD starts T 0))) same ∙ ap numberOf e)))

@@ -3,7 +3,6 @@ use mathlib.Core.Bool.{true, false}
 use mathlib.Core.Path.{_≡_, ap, sym, subst, _∙_}
 use mathlib.Core.List.{List}
 use Prim.Native.Nat.{ℕ, _≤_}
-use native.Mathlib.Omega.{arith}
 use lib.ListN.{length}
 use Rattle.job.specs.declared.Verdict.the-variants.{Counts, Refused}
 use Rattle.job.specs.declared.Reading.{Reading}
@@ -66,9 +65,6 @@ module _ {file : List ℕ} {x : Reading} {m l : ℕ} (K : Read file x m l) where
   pub platform-fits : (x .platform .processors ≤ 16) × (x .platform .topology ≤ 2) × (x .platform .unit ≤ 100)
   unfolding heldJob
   platform-fits = (held-sound .few-processors, held-sound .known-topology, held-sound .small-unit)
-
-  pub few-tasks : m ≤ 256
-  few-tasks = omega (arith, K .tasks-are, K .sound .few-tasks)
 
   pub in-arrays : {costs : List (List ℕ)} → costs ≡ square (x .platform .processors) (cost (x .platform))
       → InArrays (x .platform) m l (x .durations) (x .from) (x .to) (x .counts) costs

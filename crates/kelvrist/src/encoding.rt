@@ -6,7 +6,7 @@ ghost use Prim.Native.Nat.{ℕ, _+_, _*_, _≤_, _<_};
 ghost use lib.ListN.{length, getD, take, drop};
 ghost use lib.Seq.{sets};
 ghost use Rattle.job.specs.Number.{number as numberIn};
-ghost use Rattle.schedule.specs.PlanBytes.{taskBytes, planBytes, processorIn, startIn};
+ghost use Rattle.kelvrist.specs.PlanBytes.{taskBytes, planBytes, processorIn, startIn};
 
 // Writes the five bytes of one task.
 fn put_task(plan: &mut [u8], at: usize, processor: u8, start: u32)

@@ -5,10 +5,10 @@ use native.Mathlib.Omega.{arith}
 use borrow.Author.Needs.{needs}
 use lib.ListN.{length, getD}
 use lib.Seq.{sets}
-use Rattle.schedule.specs.PlanBytes.{planBytes}
-use Rattle.schedule.specs.Laws.Encoded.{put-none, put-more, put-all}
-use Rattle.schedule.proofs.encoding.put.Statement.{statement}
-use Rattle.schedule.proofs.encoding.put.Tie as tie
+use Rattle.kelvrist.specs.PlanBytes.{planBytes}
+use Rattle.kelvrist.specs.Laws.Encoded.{put-none, put-more, put-all}
+use Rattle.kelvrist.proofs.encoding.put.Statement.{statement}
+use Rattle.kelvrist.proofs.encoding.put.Tie as tie
 
 abbrev Inv-loop : tie.InvT-loop
 Inv-loop tasks starts processors plan₀ t₀ plan t =

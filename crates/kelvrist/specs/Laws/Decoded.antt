@@ -9,9 +9,9 @@ use lib.Seq.{take-append-seam, drop-append-seam, getD-drop, drop-drop}
 use Rattle.job.specs.Number.{number, bytes}
 use Rattle.job.specs.Write.{values}
 use Rattle.job.specs.Laws.Number.{length-bytes, number-bytes}
-use Rattle.schedule.specs.PlanBytes.{taskBytes, planBytes, processorIn, startIn}
+use Rattle.kelvrist.specs.PlanBytes.{taskBytes, planBytes, processorIn, startIn}
 use Rattle.schedule.specs.Laws.Lists.{upto-values}
-use Rattle.schedule.specs.Laws.Encoded.{task-size}
+use Rattle.kelvrist.specs.Laws.Encoded.{task-size}
 
 module _ (g : ℕ → List ℕ) (five : (T : ℕ) → length (g T) ≡ 5) (rest : List ℕ) where
   -- from task i on: the bytes after those of T tasks

@@ -3,8 +3,8 @@ use denote.Ref.{now}
 use native.Mathlib.Omega.{arith}
 use Rattle.job.specs.Laws.Number.{number-4}
 use borrow.Author.Needs.{needs}
-use Rattle.schedule.proofs.encoding.number4.Statement.{statement}
-use Rattle.schedule.proofs.encoding.number4.Tie as tie
+use Rattle.kelvrist.proofs.encoding.number4.Statement.{statement}
+use Rattle.kelvrist.proofs.encoding.number4.Tie as tie
 
 shared-slice-read-wide8 : tie.Need-shared-slice-read-wide8
 shared-slice-read-wide8 c = search needs

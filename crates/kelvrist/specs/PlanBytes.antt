@@ -1,5 +1,4 @@
 -- The calls from C, on job bytes and plan bytes (01: "it calls planner and checker with job bytes and a plan of 5 bytes a step").
-use mathlib.Core.Option.{Option, none, some}
 use mathlib.Core.List.{List, _∷_, _++_, flatMap}
 use Prim.Native.Nat.{ℕ, _+_, _*_}
 use lib.Dec.{ltb}
@@ -9,8 +8,8 @@ use Rattle.job.specs.Read.{Answer, accepted, refused, readJob}
 use Rattle.etf.specs.Lists.{upto}
 use Rattle.etf.specs.Instance.{tasks}
 use Rattle.etf.specs.OfJob.{instance}
 use Rattle.schedule.specs.Plan.{startOf, processorOf}
-use Rattle.schedule.specs.Check.{checkOf}
+use Rattle.schedule.specs.Check.{checkOf, numberOf}
 
 -- what a call returns, 0 or the refusal's number, and the last content of the plan
 pub record BytesCall : Type 0 where
@@ -47,12 +46,7 @@ planBytesFor (refused k) plan = returned k plan
 unfoldable pub planBytesCall : List ℕ → List ℕ → BytesCall
 planBytesCall file plan = planBytesFor (readJob file) plan
 
--- 01: "Each returns 0 or the refusal's number"
-unfoldable pub numberOf : Option ℕ → ℕ
-numberOf none = 0
-numberOf (some k) = k
-
--- 01: "9 if that is shorter than 5m"; a refused job's own number; else what the checker says of the plan's first 5m bytes
+-- 01: "Each returns 0 or the refusal's number": 9 "if that is shorter than 5m", a refused job's own number, else what the checker says of the plan's first 5m bytes
 unfoldable pub checkBytesFor : Answer → List ℕ → ℕ
 checkBytesFor (accepted j) plan =
     pick (ltb (length plan) (5 * tasks (instance j))) 9 (numberOf (checkOf (instance j) (processorIn plan) (startIn plan)))

@@ -4,9 +4,9 @@ use Prim.Native.Nat.{_*_, _-_, _≤_}
 use native.Mathlib.Omega.{arith}
 use borrow.Author.Needs.{needs}
 use lib.ListN.{length}
-use Rattle.schedule.specs.Laws.Encoded.{Got, got-more}
-use Rattle.schedule.proofs.encoding.get.Statement.{statement}
-use Rattle.schedule.proofs.encoding.get.Tie as tie
+use Rattle.kelvrist.specs.Laws.Encoded.{Got, got-more}
+use Rattle.kelvrist.proofs.encoding.get.Statement.{statement}
+use Rattle.kelvrist.proofs.encoding.get.Tie as tie
 
 abbrev Inv-loop : tie.InvT-loop
 Inv-loop tasks plan starts₀ processors₀ t₀ starts processors t =

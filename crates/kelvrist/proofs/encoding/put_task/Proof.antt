@@ -2,10 +2,10 @@
 use native.Mathlib.Numerals.{towards-suc}
 use lib.ListN.{length-set}
 use Rattle.job.specs.Number.{bytes}
-use Rattle.schedule.specs.PlanBytes.{taskBytes}
+use Rattle.kelvrist.specs.PlanBytes.{taskBytes}
 use borrow.Author.Needs.{needs}
-use Rattle.schedule.proofs.encoding.put_task.Statement.{statement}
-use Rattle.schedule.proofs.encoding.put_task.Tie as tie
+use Rattle.kelvrist.proofs.encoding.put_task.Statement.{statement}
+use Rattle.kelvrist.proofs.encoding.put_task.Tie as tie
 
 slice-write-plan : tie.Need-slice-write-plan
 slice-write-plan c = search needs

@@ -1,4 +1,4 @@
--- A plan's bytes against the two arrays that hold it, by stores that follow on each other and by place; of both, only the tasks' places count.
+-- A plan's bytes against the two arrays that hold it, by stores that follow on each other and by place.
 use mathlib.Core.Path.{_≡_, refl, ap, _∙_}
 use mathlib.Core.Logic.{_⊎_, inl, inr}
 use mathlib.Core.List.{List, _++_, flatMap}
@@ -11,14 +11,10 @@ use Rattle.job.specs.Number.{number}
 use Rattle.job.specs.Laws.Number.{length-bytes}
 use Rattle.job.specs.Laws.Stored.{sets-front, flat-size, store-more}
 use Rattle.etf.specs.Lists.{upto}
-use Rattle.etf.specs.Instance.{Instance, tasks}
-use Rattle.etf.specs.Schedule.{scheduleOf}
-use Rattle.etf.specs.Checker.{check}
-use Rattle.etf.specs.Laws.Lists.{upto-of, length-upto, map-same, flatMap-same}
+use Rattle.etf.specs.Laws.Lists.{upto-of, length-upto, flatMap-same}
 use Rattle.etf.specs.Laws.Tests.{le-or-lt}
-use Rattle.schedule.specs.Check.{checkOf}
-use Rattle.schedule.specs.PlanBytes.{taskBytes, planBytes, processorIn, startIn}
+use Rattle.kelvrist.specs.PlanBytes.{taskBytes, planBytes, processorIn, startIn}
 use Rattle.schedule.specs.Laws.Lists.{upto-values}
 
 -- ---- put
 
@@ -71,14 +67,7 @@ got-more plan starts processors t s g hs hp e T h = go (le-or-lt (suc T) t)
         let q : T ≡ t = omega arith in
         rw q (getD-set-same starts t s 0 hs ∙ e, getD-set-same processors t (getD plan (5 * t) 0) 0 hp)
 
--- ---- only the tasks' places count
-
--- plans that are the same on the first m tasks have the same bytes
+-- ---- only the tasks' places count: plans that are the same on the first m tasks have the same bytes
 pub plan-bytes-same : (m : ℕ) (p q s t : ℕ → ℕ) → ((T : ℕ) → T < m → p T ≡ q T) → ((T : ℕ) → T < m → s T ≡ t T) → planBytes m p s ≡ planBytes m q t
 unfolding planBytes
 plan-bytes-same m p q s t e h = flatMap-same _ _ (upto m) (λ T k. rw (e T (upto-of m T k), h T (upto-of m T k)))
-
--- and the checker says the same of them
-pub check-of-same : (I : Instance) (p q s t : ℕ → ℕ) → ((T : ℕ) → T < tasks I → p T ≡ q T) → ((T : ℕ) → T < tasks I → s T ≡ t T) → checkOf I p s ≡ checkOf I q t
-unfolding checkOf scheduleOf
-check-of-same I p q s t e h = ap (check I) (map-same _ _ (upto (tasks I)) (λ T k. rw (e T (upto-of (tasks I) T k), h T (upto-of (tasks I) T k))))

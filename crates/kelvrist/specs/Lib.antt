@@ -1,0 +1,5 @@
+pub mod PlanBytes
+pub mod Cases
+pub mod Numbers
+pub mod OwnPlan
+pub mod Laws

@@ -1,0 +1,71 @@
+// The planner and the checker for C, on job bytes and plan bytes (document 01).
+mod encoding;
+mod number;
+
+use schedule::Checked;
+use schedule::Planned;
+ghost use mathlib.Core.Path.{_≡_};
+ghost use Rattle.kelvrist.specs.PlanBytes.{returned, planBytesCall, checkBytesCall};
+ghost use Rattle.kelvrist.specs.Numbers.{planNumber, checkNumber, wholeTasks};
+
+// 0 for a plan, or the refusal's number.
+fn plan_number(planned: Planned) -> u32
+    ensures { λ r. ⌜ r ≡ planNumber planned ⌝ }
+{
+    match planned {
+        Planned::Plan { tasks: _, end: _ } => 0,
+        Planned::Refused(number) => number::wide8(number),
+    }
+}
+
+// 0 for a yes, or the refusal's number.
+fn check_number(checked: Checked) -> u32
+    ensures { λ r. ⌜ r ≡ checkNumber checked ⌝ }
+{
+    match checked {
+        Checked::Yes => 0,
+        Checked::Refused(number) => number::wide8(number),
+    }
+}
+
+// Of a job's tasks, 256 at most, as many as the bytes of a plan hold whole.
+fn whole_tasks(bytes: usize) -> usize
+    ensures { λ r. ⌜ r ≡ wholeTasks bytes ⌝ }
+{
+    if 1280 <= bytes {
+        return 256;
+    }
+    bytes / 5
+}
+
+// Plans the job of `job` into 5 bytes a task of `plan`: 0, or the refusal's number.
+#[no_mangle]
+pub extern "C" fn kelvrist_plan(job: &[u8], plan: &mut [u8]) -> u32
+    ensures { λ r. ⌜ returned r (now (plan .exit)) ≡ planBytesCall (now (job .entry)) (now (plan .entry)) ⌝ }
+{
+    let mut starts = [0u32; 256];
+    let mut processors = [0u8; 256];
+    let mut scratch = [0u32; 4096];
+    let planned = schedule::plan(job, &mut starts, &mut processors, &mut scratch);
+    let Planned::Plan { tasks, end: _ } = planned else {
+        return plan_number(planned);
+    };
+    if plan.len() < 5 * tasks {
+        return 9;
+    }
+    encoding::put(tasks, &starts, &processors, plan);
+    0
+}
+
+// Judges 5 bytes a task of `plan` for the job of `job`: 0 for a yes, or the refusal's number.
+#[no_mangle]
+pub extern "C" fn kelvrist_check(job: &[u8], plan: &[u8]) -> u32
+    ensures { λ r. ⌜ r ≡ checkBytesCall (now (job .entry)) (now (plan .entry)) ⌝ }
+{
+    let mut starts = [0u32; 256];
+    let mut processors = [0u8; 256];
+    let tasks = whole_tasks(plan.len());
+    encoding::get(tasks, plan, &mut starts, &mut processors);
+    let checked = schedule::check(job, &starts[..tasks], &processors[..tasks]);
+    check_number(checked)
+}
