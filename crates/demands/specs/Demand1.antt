@@ -26,6 +26,8 @@ use Rattle.schedule.specs.Cover.{covered, coverCall}
 use Rattle.schedule.specs.Check.{checkFor, checkCall}
 use Rattle.schedule.specs.Laws.Reading.{refused-is}
 use Rattle.kelvrist.specs.PlanBytes.{returned, processorIn, startIn, planBytesCall, checkBytesFor, checkBytesCall}
+use Rattle.listing.specs.Listing.{text, line, planListing, listing}
+use Rattle.demands.specs.Laws.Printed.{prints}
 use Rattle.demands.specs.Laws.Judged.{read-answers, check-refuses, check-answers, check-returns, check-returns-number, write-answers, write-leaves}
 use Rattle.demands.specs.Laws.Refused.{plan-answered, plan-number, plan-cause, plan-refused, cover-answered, cover-cause, cover-refused}
 use Rattle.demands.specs.Laws.Refused.{plan-as-cover, cover-as-plan, bytes-answered, bytes-number, bytes-cause, bytes-refused}
@@ -43,6 +45,11 @@ module _ (file : List ℕ) where
       (at : ℕ) × (j : Job) × Reached file at j
       × (((length file ≤ at) × (k ≡ 1)) ⊎ ((at < length file) × Cause (drop (suc at) file) j (kindOf (getD file at 0)) k))
   reader-refuses k e = read-refused file k (refused-is (readJob file) e)
+
+  -- the program prints a plan, or the reader's number, 1 to 8, and nothing else
+  pub program-answers : ((j : Job) × (readJob file ≡ accepted j) × (listing file ≡ planListing (instance j)))
+      ⊎ ((k : ℕ) × (readJob file ≡ refused k) × (1 ≤ k) × (k ≤ 8) × (listing file ≡ line (text "refused ") k))
+  program-answers = prints file
 
   module _ (starts processors scratch : List ℕ) where
     -- the planner accepts, or refuses by 1 to 9

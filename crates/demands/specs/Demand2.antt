@@ -29,6 +29,8 @@ use Rattle.schedule.specs.OwnPlan.{slices-accepted}
 use Rattle.kelvrist.specs.PlanBytes.{processorIn, startIn, planBytesCall, checkBytesCall}
 use Rattle.kelvrist.specs.OwnPlan.{bytes-accepted}
 use Rattle.demands.specs.Laws.Calls.{planned-as, covered-as}
+use Rattle.listing.specs.Listing.{header, taskLines, figures, listing}
+use Rattle.demands.specs.Laws.Printed.{prints-calls}
 use Rattle.demands.specs.Laws.Kept.{slices-hold, same-slices, measured, bytes-as, yes-keeps, zero-keeps}
 
 -- ---- 00: "The plan is the one that Algorithm ETF of Hwang, Chow, Anger and Lee gives with document 01's tie rule .."
@@ -99,6 +101,15 @@ pub cover-leaves-plan : (file starts processors scratch : List ℕ)
     × (coverCall file starts processors scratch .scratch ≡ planCall file starts processors scratch .scratch)
 unfolding coverCall planCall
 cover-leaves-plan file starts processors scratch = same-slices (readJob file) starts processors scratch
+
+-- what the program prints for the file is what the two calls, with any slices, leave and report
+pub printed-as-called : (file starts processors scratch : List ℕ) (m E : ℕ) → planCall file starts processors scratch .answer ≡ Plan m E
+    → (starts₂ processors₂ scratch₂ : List ℕ) (C D : ℕ) → coverCall file starts₂ processors₂ scratch₂ .answer ≡ Cover C D
+    → (j : Job) × (readJob file ≡ accepted j)
+    × (listing file ≡ header (j .platform .processors) m (length (j .edges))
+    ++ (taskLines m (λ T. getD (planCall file starts processors scratch .processors) T 0) (λ T. getD (planCall file starts processors scratch .starts) T 0) (λ T. getD (j .tasks) T 0)
+    ++ figures E C D))
+printed-as-called = prints-calls
 
 -- ---- 00: "A plan brought in by anybody for an accepted job is accepted if it keeps the rules of the graph, the boards and the links and starts
 -- nothing after tick 600,000,000, and refused if it breaks one."

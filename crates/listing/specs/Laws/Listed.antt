@@ -34,16 +34,16 @@ use Rattle.listing.specs.Laws.Put.{put-then}
 
 -- ---- the same numbers, the same text
 
-header-same : {n n′ m m′ l l′ : ℕ} → n ≡ n′ → m ≡ m′ → l ≡ l′ → header n m l ≡ header n′ m′ l′
+pub header-same : {n n′ m m′ l l′ : ℕ} → n ≡ n′ → m ≡ m′ → l ≡ l′ → header n m l ≡ header n′ m′ l′
 header-same a b c = rw (a, b, c)
 
-lines-same : {m m′ : ℕ} (p p′ s s′ d d′ : ℕ → ℕ) → m ≡ m′ → ((T : ℕ) → T < m′ → p T ≡ p′ T) → ((T : ℕ) → T < m′ → s T ≡ s′ T) → ((T : ℕ) → T < m′ → d T ≡ d′ T)
+pub lines-same : {m m′ : ℕ} (p p′ s s′ d d′ : ℕ → ℕ) → m ≡ m′ → ((T : ℕ) → T < m′ → p T ≡ p′ T) → ((T : ℕ) → T < m′ → s T ≡ s′ T) → ((T : ℕ) → T < m′ → d T ≡ d′ T)
     → taskLines m p s d ≡ taskLines m′ p′ s′ d′
 unfolding taskLines
 lines-same {m} {m′} p p′ s s′ d d′ e a b c =
     rw e (flatMap-same _ _ (upto m′) (λ T h. rw (a T (upto-of m′ T h), b T (upto-of m′ T h), c T (upto-of m′ T h))))
 
-listing-same : {E E′ C C′ D D′ : ℕ} {a a′ b b′ : List ℕ} → a ≡ a′ → b ≡ b′ → E ≡ E′ → C ≡ C′ → D ≡ D′
+pub listing-same : {E E′ C C′ D D′ : ℕ} {a a′ b b′ : List ℕ} → a ≡ a′ → b ≡ b′ → E ≡ E′ → C ≡ C′ → D ≡ D′
     → a ++ (b ++ figures E C D) ≡ a′ ++ (b′ ++ figures E′ C′ D′)
 listing-same p q x y z = rw (p, q, x, y, z)
 
