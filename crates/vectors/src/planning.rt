@@ -61,29 +61,24 @@ fn cover(file: &[u8], starts: &mut [u32], processors: &mut [u8], scratch: &mut [
     checking::check(file, starts, processors);
 }
 
-// The planner, on slices that hold their fills.
-fn plan_case(body: &[u8], starts: usize, processors: usize, scratch: usize)
-    requires { ⌜ (15 ≤ length (now body)) × (starts ≤ 300) × (processors ≤ 300) × (scratch ≤ 4200) ⌝ }
-{
-    let mut times = [number::four(body, 6) as u32; 300];
-    let mut places = [body[14]; 300];
-    let mut arrivals = [number::four(body, 10) as u32; 4200];
-    plan(
-        &body[15..],
-        &mut times[0..starts],
-        &mut places[0..processors],
-        &mut arrivals[0..scratch],
-    );
+// The cover call or the planner.
+fn call(covers: bool, file: &[u8], starts: &mut [u32], processors: &mut [u8], scratch: &mut [u32]) {
+    if covers {
+        cover(file, starts, processors, scratch);
+        return;
+    }
+    plan(file, starts, processors, scratch);
 }
 
-// The cover call, on slices that hold their fills.
-fn cover_case(body: &[u8], starts: usize, processors: usize, scratch: usize)
+// The call on slices of so many places that hold their fills.
+fn lend(covers: bool, body: &[u8], starts: usize, processors: usize, scratch: usize)
     requires { ⌜ (15 ≤ length (now body)) × (starts ≤ 300) × (processors ≤ 300) × (scratch ≤ 4200) ⌝ }
 {
     let mut times = [number::four(body, 6) as u32; 300];
     let mut places = [body[14]; 300];
     let mut arrivals = [number::four(body, 10) as u32; 4200];
-    cover(
+    call(
+        covers,
         &body[15..],
         &mut times[0..starts],
         &mut places[0..processors],
@@ -107,6 +102,6 @@ pub fn case(body: &[u8]) {
     if 4200 < scratch {
         return;
     }
-    plan_case(body, starts, processors, scratch);
-    cover_case(body, starts, processors, scratch);
+    lend(false, body, starts, processors, scratch);
+    lend(true, body, starts, processors, scratch);
 }
