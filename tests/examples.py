@@ -20,7 +20,7 @@ import etf  # noqa: E402
 from jobs import some_file  # noqa: E402
 from kelvrist import jobfile, jobtext, listing  # noqa: E402
 from kelvrist.walk import walk  # noqa: E402
-from make_vectors import Dice  # noqa: E402
+from vectors.dice import Dice  # noqa: E402
 
 EXAMPLES = TOP / "examples"
 NAMES = ["a", "cube16", "forkjoin", "greatest", "postponed", "ring"]

@@ -20,9 +20,10 @@ sys.dont_write_bytecode = True
 import etf  # noqa: E402
 import library  # noqa: E402
 from jobs import some_file  # noqa: E402
-from make_vectors import STDIN, Dice  # noqa: E402
-from plans import as_bytes, as_plan, handed_in  # noqa: E402
+from vectors.dice import Dice  # noqa: E402
+from vectors.plans import as_bytes, as_plan, handed_in  # noqa: E402
 
+STDIN = TOP / "crates" / "vectors" / "stdin"
 ARCHIVES = {"library": "target/staticlib/libschedule.a", "timing": "target/staticlib/libtiming.a"}
 SCRATCH = 4096
 

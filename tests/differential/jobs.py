@@ -1,49 +1,7 @@
 """Random jobs of many shapes, and damaged ones. Small numbers make ties likely."""
 import etf
-from make_vectors import END, damaged, link, near, rack, step
-
-MOST_TASKS, MOST_EDGES = 256, 1024
-
-
-# ---- shapes: the pairs of tasks that have an edge
-
-def chain(dice, m):
-    return [(t, t + 1) for t in range(m - 1)]
-
-
-def fork_join(dice, m):
-    return [(0, t) for t in range(1, m - 1)] + [(t, m - 1) for t in range(1, m - 1)]
-
-
-def tree_out(dice, m):
-    return [(dice.below(t), t) for t in range(1, m)]
-
-
-def tree_in(dice, m):
-    return [(t, dice.between(t + 1, m - 1)) for t in range(m - 1)]
-
-
-def layered(dice, m):
-    width, share = dice.between(1, 8), dice.between(20, 100)
-    return [(a, b) for a in range(m) for b in range(a + 1, m)
-            if b // width == a // width + 1 and dice.below(100) < share]
-
-
-def dense(dice, m):
-    return [(a, b) for a in range(m) for b in range(a + 1, m)]
-
-
-def wide(dice, m):
-    """Few edges, or none."""
-    return dice.some(dense(dice, min(m, 40)), dice.below(4))
-
-
-def any_pairs(dice, m):
-    pairs = dense(dice, m)
-    return dice.some(pairs, dice.below(min(len(pairs), 3 * m) + 1))
-
-
-SHAPES = [chain, fork_join, tree_out, tree_in, layered, dense, wide, any_pairs]
+from vectors.jobs import MOST_EDGES, MOST_TASKS, SHAPES, numbers
+from vectors.records import END, damaged, link, rack, step
 
 
 # ---- jobs
@@ -55,19 +13,6 @@ def some_size(dice):
     if turn < 10:
         return dice.between(13, 70)
     return dice.between(1, 12)
-
-
-def numbers(dice, most, count):
-    """So many numbers from 1 to most: all the same, small, near the ends, or any."""
-    same, small = near(dice, 1, most), dice.one_of([2, 3, 6, 20])
-    draw = dice.one_of([
-        lambda: same,
-        lambda: dice.between(1, small),
-        lambda: dice.between(1, small),
-        lambda: near(dice, 1, most),
-        lambda: dice.between(1, most),
-    ])
-    return [draw() for _ in range(count)]
 
 
 def some_job(dice):

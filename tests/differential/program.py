@@ -26,9 +26,11 @@ TOP = Path(__file__).resolve().parent.parent.parent
 sys.path[:0] = [str(TOP / "tests"), str(TOP / "tests" / "reference")]
 sys.dont_write_bytecode = True
 import etf  # noqa: E402
-from differential import case_files  # noqa: E402
-from jobs import chain, some_file  # noqa: E402
-from make_vectors import END, STDIN, Dice, greatest, greatest_values, link, rack, step  # noqa: E402
+from differential import STDIN, case_files  # noqa: E402
+from jobs import some_file  # noqa: E402
+from vectors.dice import Dice  # noqa: E402
+from vectors.jobs import chain, greatest, greatest_values  # noqa: E402
+from vectors.records import END, link, rack, step  # noqa: E402
 
 PROGRAM = TOP / "target" / "bin" / "plan"
 FOLDER = TOP / "target" / "program"

@@ -1,20 +1,49 @@
-// Puts each case of standard input through the job reader or the job writer, and prints one line for it.
+// Puts each case of standard input through a public entry of the job reader, the planner or the listing, and prints what comes of it.
 // tests/make_vectors.py makes the cases and, from the reference planner, the lines that they must give.
 //
-// A case is a byte that says what it is for ('r' or 'w'), the length of its body in 2 bytes, and the body.
-// Numbers are little-endian. The body of 'r' is a file; that of 'w' is in writing.rt.
+// A case is a byte that says what it is for, the length of its body in 2 bytes, and the body. Numbers are little-endian.
+//
+//   r  the job reader                      c  the checker
+//   w  the job writer                      s  the station's planner
+//   p  the planner and the cover call      b  the station's checker
+//                                          t  the listing
+//
+// The body of 'r' is a file; the others' are in the files that run them.
+mod checking;
 mod number;
+mod planning;
 mod reading;
 mod show;
+mod station;
+mod text;
 mod writing;
 
 use libc::STDIN_FILENO;
 
-fn run(what: u8, body: &[u8]) {
+fn run_job(what: u8, body: &[u8]) {
     if what == b'r' {
         reading::case(body);
-    } else {
+    }
+    if what == b'w' {
         writing::case(body);
+    }
+    if what == b't' {
+        text::case(body);
+    }
+}
+
+fn run_plan(what: u8, body: &[u8]) {
+    if what == b'p' {
+        planning::case(body);
+    }
+    if what == b'c' {
+        checking::case(body);
+    }
+    if what == b's' {
+        station::plan_case(body);
+    }
+    if what == b'b' {
+        station::check_case(body);
     }
 }
 
@@ -38,7 +67,8 @@ fn next() -> bool {
     let mut buffer = [0u8; 8192];
     let is_whole = fill(&mut buffer, length);
     if is_whole {
-        run(head[0], show::first(&buffer, length));
+        run_job(head[0], show::first(&buffer, length));
+        run_plan(head[0], show::first(&buffer, length));
     }
     is_whole
 }

@@ -13,7 +13,9 @@ pub fn wide16(x: u16) -> u64 {
     x as u64
 }
 
-pub fn wide32(x: u32) -> u64 {
+pub fn wide32(x: u32) -> u64
+    ensures { λ r. ⌜ r < 4294967296 ⌝ }
+{
     x as u64
 }
 

@@ -1,6 +1,7 @@
 // Printing to standard output.
 use crate::number;
 use libc::STDOUT_FILENO;
+ghost use Prim.Native.Nat.{_<_};
 
 // The first `n` bytes, or all where there are fewer.
 pub fn first(bytes: &[u8], n: usize) -> &[u8] {
@@ -9,6 +10,11 @@ pub fn first(bytes: &[u8], n: usize) -> &[u8] {
     } else {
         bytes
     }
+}
+
+// The bytes from place `n` on, or all where there are fewer.
+pub fn rest(bytes: &[u8], n: usize) -> &[u8] {
+    if n <= bytes.len() { &bytes[n..] } else { bytes }
 }
 
 pub fn text(bytes: &[u8]) {
@@ -28,4 +34,52 @@ pub fn hex(bytes: &[u8]) {
         io::print_hex(STDOUT_FILENO, number::wide8(bytes[i]), 2);
         i += 1;
     }
+}
+
+// Each number, after a space.
+pub fn words(numbers: &[u32]) {
+    let mut i: usize = 0;
+    while i < numbers.len() {
+        word(number::wide32(numbers[i]));
+        i += 1;
+    }
+}
+
+// Each byte as a number, after a space.
+pub fn byte_words(bytes: &[u8]) {
+    let mut i: usize = 0;
+    while i < bytes.len() {
+        word(number::wide8(bytes[i]));
+        i += 1;
+    }
+}
+
+// One more number in a digest.
+fn mixed(digest: u64, x: u64) -> u64
+    requires { ⌜ (digest < 4294967291) × (x < 4294967296) ⌝ }
+    ensures { λ r. ⌜ r < 4294967291 ⌝ }
+{
+    (257 * digest + x) % 4294967291
+}
+
+// A digest of numbers that are too many to print.
+pub fn digest(numbers: &[u32]) {
+    let mut i: usize = 0;
+    let mut sum: u64 = 0;
+    while i < numbers.len() {
+        sum = mixed(sum, number::wide32(numbers[i]));
+        i += 1;
+    }
+    word(sum);
+}
+
+// A digest of bytes that are too many to print.
+pub fn byte_digest(bytes: &[u8]) {
+    let mut i: usize = 0;
+    let mut sum: u64 = 0;
+    while i < bytes.len() {
+        sum = mixed(sum, number::wide8(bytes[i]));
+        i += 1;
+    }
+    word(sum);
 }

@@ -1,0 +1,107 @@
+// A case of the planner and the cover call: what each answers, what it leaves in the three slices, and what the checker says of
+// the starts and processors there. Its body:
+//
+//   0  length of the starts (2)        6  fill of the starts (4)       14  fill of the processors
+//   2  length of the processors (2)   10  fill of the scratch (4)      15  the file
+//   4  length of the scratch (2)
+use crate::checking;
+use crate::number;
+use crate::show;
+use schedule::Covered;
+use schedule::Planned;
+ghost use Prim.Native.Nat.{_≤_};
+ghost use lib.ListN.{length};
+
+fn show_planned(planned: Planned) {
+    show::text(b"plan");
+    match planned {
+        Planned::Plan { tasks, end } => {
+            show::word(number::wide(tasks));
+            show::word(number::wide32(end));
+        }
+        Planned::Refused(number) => {
+            show::text(b" refused");
+            show::word(number::wide8(number));
+        }
+    }
+}
+
+fn show_covered(covered: Covered) {
+    show::text(b"cover");
+    match covered {
+        Covered::Cover { cover, dearest } => {
+            show::word(number::wide32(cover));
+            show::word(number::wide32(dearest));
+        }
+        Covered::Refused(number) => {
+            show::text(b" refused");
+            show::word(number::wide8(number));
+        }
+    }
+}
+
+fn show_slices(starts: &[u32], processors: &[u8], scratch: &[u32]) {
+    show::text(b" starts");
+    show::words(starts);
+    show::text(b" processors");
+    show::byte_words(processors);
+    show::text(b" scratch");
+    show::digest(scratch);
+}
+
+fn plan(file: &[u8], starts: &mut [u32], processors: &mut [u8], scratch: &mut [u32]) {
+    show_planned(schedule::plan(file, starts, processors, scratch));
+    show_slices(starts, processors, scratch);
+    checking::check(file, starts, processors);
+}
+
+fn cover(file: &[u8], starts: &mut [u32], processors: &mut [u8], scratch: &mut [u32]) {
+    show_covered(schedule::cover(file, starts, processors, scratch));
+    show_slices(starts, processors, scratch);
+    checking::check(file, starts, processors);
+}
+
+// The cover call or the planner.
+fn call(covers: bool, file: &[u8], starts: &mut [u32], processors: &mut [u8], scratch: &mut [u32]) {
+    if covers {
+        cover(file, starts, processors, scratch);
+        return;
+    }
+    plan(file, starts, processors, scratch);
+}
+
+// The call on slices of so many places that hold their fills.
+fn lend(covers: bool, body: &[u8], starts: usize, processors: usize, scratch: usize)
+    requires { ⌜ (15 ≤ length (now body)) × (starts ≤ 300) × (processors ≤ 300) × (scratch ≤ 4200) ⌝ }
+{
+    let mut times = [number::four(body, 6) as u32; 300];
+    let mut places = [body[14]; 300];
+    let mut arrivals = [number::four(body, 10) as u32; 4200];
+    call(
+        covers,
+        &body[15..],
+        &mut times[0..starts],
+        &mut places[0..processors],
+        &mut arrivals[0..scratch],
+    );
+}
+
+pub fn case(body: &[u8]) {
+    if body.len() < 15 {
+        return;
+    }
+    let starts = number::two(body, 0) as usize;
+    let processors = number::two(body, 2) as usize;
+    let scratch = number::two(body, 4) as usize;
+    if 300 < starts {
+        return;
+    }
+    if 300 < processors {
+        return;
+    }
+    if 4200 < scratch {
+        return;
+    }
+    lend(false, body, starts, processors, scratch);
+    lend(true, body, starts, processors, scratch);
+}

@@ -1,0 +1,100 @@
+"""A case for each entry above the reader: its body, and the lines that it must give."""
+import etf
+from vectors.told import SCRATCH, digest, told
+
+# Numbers that no planner writes: no planned time passes 460,000,000, and a processor is below 16.
+FILLS = (4_000_000_007, 3_500_000_009, 0xEE)
+
+
+def two(number):
+    return number.to_bytes(2, "little")
+
+
+def four(number):
+    return number.to_bytes(4, "little")
+
+
+def words(*things):
+    return " ".join(map(str, things))
+
+
+def yes_or(number):
+    return words("refused", number) if number else "yes"
+
+
+# ---- the planner and the cover call
+
+def slices_line(file, head, starts, processors, scratch):
+    return words(*head, "starts", *starts, "processors", *processors, "scratch", digest(scratch),
+                 "check", yes_or(file.checked(starts, processors)))
+
+
+def front(whole, begin):
+    """The slice after a call that writes to its front."""
+    return begin + whole[len(begin):]
+
+
+def plan(cases, data, starts=None, processors=None, scratch=SCRATCH, fills=FILLS):
+    """The planner and the cover call, with slices of so many places: as many as there are tasks if not told."""
+    file = told(data)
+    lengths = [file.tasks if starts is None else starts, file.tasks if processors is None else processors, scratch]
+    slices = [[fill] * length for fill, length in zip((fills[0], fills[2], fills[1]), lengths)]
+    refusal = file.refusal or (9 if min(lengths[:2]) < file.tasks or scratch < SCRATCH else 0)
+    planned, covered = ["refused", refusal], ["refused", refusal]
+    if not refusal:
+        planned, covered = [file.tasks, file.plan.end], [file.cover, file.dearest]
+        slices = [front(whole, begin) for whole, begin in zip(slices, (file.plan.start, file.plan.board, file.plan.arrival))]
+    body = b"".join(map(two, lengths)) + four(fills[0]) + four(fills[1]) + bytes([fills[2]]) + data
+    cases.add(b"p", body, slices_line(file, ["plan", *planned], *slices), slices_line(file, ["cover", *covered], *slices))
+
+
+# ---- the checker
+
+def check(cases, data, starts, processors):
+    line = words("plan of", len(starts), len(processors), "check", yes_or(told(data).checked(starts, processors)))
+    cases.add(b"c", two(len(starts)) + two(len(processors)) + b"".join(map(four, starts)) + bytes(processors) + data, line)
+
+
+# ---- the station controller's two calls
+
+def station_plan(cases, data, room=None, fill=FILLS[2]):
+    """The station's planner, with a plan of so many bytes: as many as it fills if not told."""
+    file = told(data)
+    room = 5 * file.tasks if room is None else room
+    after = bytes([fill]) * room
+    refusal = file.refusal or (9 if room < 5 * file.tasks else 0)
+    if not refusal:
+        after = front(after, file.bytes())
+    cases.add(b"s", two(room) + bytes([fill]) + data, f"station {refusal} [{after.hex()}] check {file.bytes_checked(after)}")
+
+
+def station_check(cases, data, handed):
+    cases.add(b"b", two(len(handed)) + handed + data, words("station plan of", len(handed), "check", told(data).bytes_checked(handed)))
+
+
+# ---- the listing
+
+LISTING = 12288
+
+
+def listing(cases, data, fill=FILLS[2]):
+    text = etf.report(data)
+    past = digest([fill] * (LISTING - len(text)))
+    cases.add(b"t", bytes([fill]) + data, *text.splitlines(), words("listing of", len(text), "past it", past))
+
+
+# ---- all of them
+
+def planned(cases, data, more=0):
+    """A file through each entry that plans, with slices that have so many places more than they need."""
+    m = told(data).tasks
+    plan(cases, data, m + more, m + 2 * more, SCRATCH + more)
+    station_plan(cases, data, 5 * m + more)
+    listing(cases, data)
+
+
+def handed(cases, data, rows):
+    """A plan, which is a processor and a start for each task, through both checkers."""
+    rows = list(rows)
+    check(cases, data, [start for _, start in rows], [p for p, _ in rows])
+    station_check(cases, data, b"".join(bytes([p]) + four(start) for p, start in rows))

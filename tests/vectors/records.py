@@ -1,0 +1,78 @@
+"""The records of a job file, and damaged files."""
+import etf
+
+END = b"\x04"
+
+
+def rack(n=2, wiring=0, c=2):
+    return bytes([1, n, wiring, c])
+
+
+def step(duration=5):
+    return b"\x02" + duration.to_bytes(4, "little")
+
+
+def link(start, to, count=1):
+    return bytes([3, start, to]) + count.to_bytes(2, "little")
+
+
+def records(job):
+    """The records of a job, also of one with values out of range."""
+    return [rack(job.boards, job.wiring, job.unit), *map(step, job.steps), *(link(*l) for l in job.links), END]
+
+
+def damaged(dice, job):
+    """The bytes of a job with one damage."""
+    rows = records(job)
+    data = b"".join(rows)
+    i = dice.below(len(data))
+    r = dice.below(len(rows))
+    s = dice.below(len(rows))
+    way = dice.below(10)
+    if way == 0:
+        return data[:i] + bytes([dice.below(256)]) + data[i + 1 :]
+    if way == 1:
+        return data[:i] + bytes([dice.below(6)]) + data[i + 1 :]
+    if way == 2:
+        return data[:i] + data[i + 1 :]
+    if way == 3:
+        return data[:i] + bytes([dice.below(256)]) + data[i:]
+    if way == 4:
+        return data[:i]
+    if way == 5:
+        return data + bytes(dice.below(256) for _ in range(dice.between(1, 6)))
+    if way == 6:
+        rows[r], rows[s] = rows[s], rows[r]
+    elif way == 7:
+        rows.insert(r, rows[s])
+    elif way == 8:
+        del rows[r]
+    else:
+        return b"".join(records(out_of_range(dice, job)))
+    return b"".join(rows)
+
+
+def out_of_range(dice, job):
+    """A copy of the job with one value or one edge altered, most often to one that is refused."""
+    new = etf.Job(job.boards, job.wiring, job.unit, job.steps, job.links)
+    way = dice.below(7)
+    i = dice.below(len(new.steps))
+    if way == 0:
+        new.boards = dice.one_of([0, 17, 255, 16])
+    elif way == 1:
+        new.wiring = dice.one_of([3, 4, 255])
+    elif way == 2:
+        new.unit = dice.one_of([100, 101, 255])
+    elif way == 3 or not new.links:
+        new.steps[i] = dice.one_of([0, 1_000_001, 2**32 - 1, 1_000_000])
+    else:
+        i = dice.below(len(new.links))
+        start, to, count = new.links[i]
+        if way == 4:
+            count = dice.one_of([0, 1001, 65_535, 1000])
+        elif way == 5:
+            start, to = to, start
+        else:
+            start, to = dice.one_of([(start, 255), (start, start), new.links[0][:2], new.links[-1][:2]])
+        new.links[i] = (start, to, count)
+    return new

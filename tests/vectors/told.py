@@ -1,0 +1,57 @@
+"""What the reference planner says of a file, and of the plans that are handed in for it."""
+from functools import lru_cache
+
+import etf
+from vectors.plans import as_bytes, as_plan
+
+SCRATCH = 4096
+DIGEST = 4294967291
+
+
+def digest(numbers):
+    """The digest that program `vectors` prints of numbers that are too many to print."""
+    d = 0
+    for x in numbers:
+        d = (257 * d + x) % DIGEST
+    return d
+
+
+class Told:
+    """A file: a refusal's number, or 0, the job, its plan, C and the dearest chain."""
+
+    def __init__(self, data):
+        self.data, self.refusal, self.job, self.tasks = data, 0, None, 0
+        try:
+            self.job = etf.read(data)
+        except etf.Refused as refused:
+            self.refusal = refused.number
+            return
+        self.tasks = len(self.job.steps)
+        self.plan = etf.plan(self.job)
+        self.cover, self.dearest = etf.cover(self.job, self.plan), etf.dearest(self.job)
+
+    def bytes(self):
+        """The planner's plan as the station controller gets it."""
+        return as_bytes(zip(self.plan.board, self.plan.start))
+
+    def checked(self, starts, processors):
+        """The checker's answer: 0 for a yes."""
+        return self.refusal or etf.check(self.job, processors, starts)
+
+    def bytes_checked(self, plan):
+        """The answer of the station's checker."""
+        if self.refusal:
+            return self.refusal
+        if len(plan) < 5 * self.tasks:
+            return 9
+        rows = as_plan(plan, self.tasks)
+        return etf.check(self.job, [p for p, _ in rows], [start for _, start in rows])
+
+
+@lru_cache(maxsize=None)
+def told(data):
+    return Told(data)
+
+
+def of_job(job):
+    return told(etf.write(job))
