@@ -32,26 +32,26 @@ definitions:
 	$(need-python)
 	@python3 tests/definitions.py seed=$(SEED) jobs=$(JOBS)
 
-host: target/staticlib/libschedule.a
+host: target/staticlib/libkelvrist.a
 	$(need-cc)
 	@tests/c_host/run
 
-differential: target/staticlib/libschedule.a target/staticlib/libtiming.a
+differential: target/staticlib/libkelvrist.a target/staticlib/libtiming.a
 	$(need-cc)
 	$(need-python)
 	@python3 tests/differential/differential.py seed=$(SEED) jobs=$(JOBS)
 
-bench: target/staticlib/libschedule.a target/staticlib/libtiming.a
+bench: target/staticlib/libkelvrist.a target/staticlib/libtiming.a
 	$(need-rust)
 	$(need-cc)
 	@rustc --edition 2021 -O -C target-cpu=x86-64 -C codegen-units=1 \
-		-L native=target/staticlib -l static=timing -l static=schedule -o target/bench bench/main.rs
+		-L native=target/staticlib -l static=timing -l static=kelvrist -o target/bench bench/main.rs
 	@target/bench crates/vectors/stdin
 
-# A library is proved and written again where a file of its crates is newer; `timing` uses `schedule`.
+# A library is proved and written again where a file of its crates is newer; one after the other, since both prove `schedule`.
 sources = crates.txt $(shell find $(1) -name '*.rt' -o -name '*.antt')
-target/staticlib/libschedule.a: $(call sources,crates/job crates/etf crates/schedule)
-target/staticlib/libtiming.a: target/staticlib/libschedule.a $(call sources,crates/timing)
+target/staticlib/libkelvrist.a: $(call sources,crates/job crates/etf crates/schedule crates/kelvrist)
+target/staticlib/libtiming.a: $(call sources,crates/job crates/etf crates/schedule crates/timing) | target/staticlib/libkelvrist.a
 target/staticlib/lib%.a:
 	$(need-rt)
 	@rt staticlib $*
