@@ -1,4 +1,4 @@
-//! The proved functions of crates `timing` and `schedule`, as C calls them: a slice is a pointer and a length.
+//! The proved functions of crates `timing` and `kelvrist`, as C calls them: a slice is a pointer and a length.
 
 mod c {
     extern "C" {

@@ -1,4 +1,4 @@
-/* Kelvrist: plans a job for linked processors, and checks plans. Library libschedule.a.
+/* Kelvrist: plans a job for linked processors, and checks plans. Library libkelvrist.a.
  *
  * A job is a platform of 1 to 16 equal processors, 1 to 256 tasks and up to 1,024 edges. An edge says
  * that one task sends messages to another, which cannot start before they are there. A plan gives each

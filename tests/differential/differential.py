@@ -1,5 +1,5 @@
 #!/usr/bin/env python3
-"""Holds the two calls of libschedule.a and the cover call of libtiming.a to the reference planner, tests/reference/etf.py, on
+"""Holds the two calls of libkelvrist.a and the cover call of libtiming.a to the reference planner, tests/reference/etf.py, on
 random jobs and plans; the cover call also on the files among the cases of crate vectors.
 
     differential.py [seed=N] [jobs=N] [only=N] [library=FILE] [timing=FILE]
@@ -24,7 +24,7 @@ from vectors.dice import Dice  # noqa: E402
 from vectors.plans import as_bytes, as_plan, handed_in  # noqa: E402
 
 STDIN = TOP / "crates" / "vectors" / "stdin"
-ARCHIVES = {"library": "target/staticlib/libschedule.a", "timing": "target/staticlib/libtiming.a"}
+ARCHIVES = {"library": "target/staticlib/libkelvrist.a", "timing": "target/staticlib/libtiming.a"}
 SCRATCH = 4096
 
 

@@ -1,4 +1,4 @@
-"""The two calls of libschedule.a and the cover call of libtiming.a, by ctypes, with guard bytes around what is lent to them."""
+"""The two calls of libkelvrist.a and the cover call of libtiming.a, by ctypes, with guard bytes around what is lent to them."""
 import ctypes
 import shutil
 import subprocess
@@ -37,7 +37,7 @@ class Lent:
 class Schedule:
     """The planner and the checker from C."""
 
-    CRATE = "schedule"
+    CRATE = "kelvrist"
 
     def __init__(self, entries):
         self.entries = entries
