@@ -4,12 +4,12 @@ mod put;
 
 use job::Verdict;
 use schedule::Covered;
-use schedule::Planned;
 ghost use mathlib.Core.Path.{_≡_};
-ghost use Prim.Native.Nat.{ℕ, _+_, _*_, _≤_, _<_};
+ghost use Prim.Native.Nat.{ℕ, _+_, _*_, _≤_, _<_, max};
 ghost use lib.ListN.{length, getD};
 ghost use Rattle.listing.specs.Listing.{header as headerOf, taskLine, taskLines, figures as figuresOf, listed, listingCall};
-ghost use Rattle.listing.specs.Pass.{Put, verdictNumber, endIn, coverIn, dearestIn};
+ghost use Rattle.listing.specs.Pass.{Put, coverIn, dearestIn};
+ghost use Rattle.schedule.specs.Pass.{most, verdictNumber};
 
 // The number of a refused file.
 fn refusal(verdict: Verdict) -> u8
@@ -18,16 +18,6 @@ fn refusal(verdict: Verdict) -> u8
     match verdict {
         Verdict::Counts { tasks: _, edges: _ } => 0,
         Verdict::Refused(number) => number,
-    }
-}
-
-// The end of a plan.
-fn end_in(planned: Planned) -> u32
-    ensures { λ r. ⌜ r ≡ endIn planned ⌝ }
-{
-    match planned {
-        Planned::Plan { tasks: _, end } => end,
-        Planned::Refused(_) => 0,
     }
 }
 
@@ -107,6 +97,30 @@ fn lines<'a>(
     place
 }
 
+fn later(a: u32, b: u32) -> u32
+    ensures { λ r. ⌜ r ≡ max a b ⌝ }
+{
+    if a < b {
+        return b;
+    }
+    a
+}
+
+// The greatest finish (01: the plan's end).
+fn last_finish<'a>(tasks: usize, durations: &'a [u32], starts: &'a [u32]) -> u32
+    requires { ⌜ (tasks ≤ length (now durations)) × (tasks ≤ length (now starts)) ⌝ }
+    requires { ⌜ ((T : ℕ) → T < tasks → getD (now starts) T 0 + getD (now durations) T 0 < 4294967296) ⌝ }
+    ensures { λ r. ⌜ r ≡ most tasks (λ T. getD (now (starts .entry)) T 0 + getD (now (durations .entry)) T 0) ⌝ }
+{
+    let mut end: u32 = 0;
+    let mut t: usize = 0;
+    while t < tasks {
+        end = later(end, starts[t] + durations[t]);
+        t += 1;
+    }
+    end
+}
+
 // The last three lines.
 fn figures(out: &mut [u8], at: usize, end: u32, cover: u32, dearest: u32) -> usize
     requires { ⌜ at + 51 ≤ length (now out) ⌝ }
@@ -132,14 +146,8 @@ pub fn write(file: &[u8], out: &mut [u8; 12288]) -> usize
     let mut processors = [0u8; 256];
     let mut scratch = [0u32; 4096];
     let covered = schedule::cover(file, &mut starts, &mut processors, &mut scratch);
-    let planned = schedule::plan(file, &mut starts, &mut processors, &mut scratch);
     let first = header(out, r.platform.processors, tasks, edges);
+    let end = last_finish(tasks, &r.durations, &starts);
     let last = lines(out, first, tasks, &r.durations, &starts, &processors);
-    figures(
-        out,
-        last,
-        end_in(planned),
-        cover_in(covered),
-        dearest_in(covered),
-    )
+    figures(out, last, end, cover_in(covered), dearest_in(covered))
 }

@@ -5,7 +5,7 @@ use mathlib.Core.Logic.{_⊎_, inl, inr}
 use Prim.Native.Nat.{ℕ, suc, _+_, _-_, _*_, _≤_, _<_}
 use native.Mathlib.Omega.{arith}
 use native.Mathlib.Nat.{mul-le-mul-left}
-use Rattle.etf.specs.Lists.{upto}
+use Rattle.etf.specs.Lists.{upto, greatest}
 use Rattle.etf.specs.Instance.{Instance, WellFormed, tasks, duration}
 use Rattle.etf.specs.Schedule.{placementOf, finish, end}
 use Rattle.etf.specs.Rule.{planned}
@@ -92,3 +92,8 @@ module _ (I : Instance) (W : WellFormed I) where
           let z = greatest-at (λ T. placementOf (planned I) T .start + duration I T) (upto (tasks I)) (end I (planned I)) b in
           let h = upto-of (tasks I) (z .0) (z .1) in
           absurd (omega (arith, z .2, by-end I W (z .0) h, ap (duration I) (home I W (z .0) h .1)))
+
+  -- the end, as the greatest finish by task number
+  pub end-by-task : greatest (λ T. placementOf (planned I) T .start + duration I T) (upto (tasks I)) ≡ end I (planned I)
+  unfolding makespan own-ideal
+  end-by-task = own-makespan

@@ -47,23 +47,24 @@ slice-aggregate-cover-3 c = search needs
 cover-requires : tie.Need-cover-requires
 cover-requires c κs = search needs
 
-slice-aggregate-plan : tie.Need-slice-aggregate-plan
-slice-aggregate-plan c = search needs
-
-slice-aggregate-plan-2 : tie.Need-slice-aggregate-plan-2
-slice-aggregate-plan-2 c = search needs
-
-slice-aggregate-plan-3 : tie.Need-slice-aggregate-plan-3
-slice-aggregate-plan-3 c = search needs
-
-plan-requires : tie.Need-plan-requires
-plan-requires c κs = search needs
-
 header-requires : tie.Need-header-requires
 header-requires c κs =
-    let at-verdict = c .before .before .before .before .before .before .before .before .before .before .before .before .before .before .before .before in
+    let at-verdict = c .before .before .before .before .before .before .before .before .before in
     let at-read = at-verdict .before .before in
     (few-tasks _ (at-read .read .ensures) (at-verdict .verdict .given .1), few-edges _ (at-read .read .ensures) (at-verdict .verdict .given .1), search needs)
+
+slice-aggregate-last-finish : tie.Need-slice-aggregate-last-finish
+slice-aggregate-last-finish c = search needs
+
+last-finish-requires : tie.Need-last-finish-requires
+last-finish-requires c κs =
+    let at-cover = c .before .before .before .before .before .before .before .before .before in
+    let at-verdict = at-cover .before .before .before .before .before in
+    let at-read = at-verdict .before .before in
+    let few = few-tasks _ (at-read .read .ensures) (at-verdict .verdict .given .1) in (
+      (omega (arith, few, durations-size _ (at-read .read .ensures) (at-verdict .verdict .given .1)), omega (arith, few, at-cover .cover .kept .1 .0)),
+      finish-fits _ (at-read .read .ensures) (at-verdict .verdict .given .1) _ _ _ refl refl refl (at-cover .cover .ensures),
+    )
 
 slice-aggregate-lines : tie.Need-slice-aggregate-lines
 slice-aggregate-lines c = search needs
@@ -73,9 +74,8 @@ slice-aggregate-lines-2 c = search needs
 
 lines-requires : tie.Need-lines-requires
 lines-requires c κs =
-    let at-header = c .before .before .before .before .before .before in
-    let at-plan = at-header .before .before .before .before .before in
-    let at-cover = at-plan .before .before .before .before .before .before .before in
+    let at-header = c .before .before .before .before .before .before .before .before .before .before .before in
+    let at-cover = at-header .before .before .before .before .before in
     let at-verdict = at-cover .before .before .before .before .before in
     let at-read = at-verdict .before .before in
     let few = few-tasks _ (at-read .read .ensures) (at-verdict .verdict .given .1) in (
@@ -83,15 +83,12 @@ lines-requires c κs =
       (
         (
           omega (arith, few, durations-size _ (at-read .read .ensures) (at-verdict .verdict .given .1)),
-          omega (arith, few, at-plan .plan .kept .1 .0, at-cover .cover .kept .1 .0),
-          omega (arith, few, at-plan .plan .kept .1 .1 .0, at-cover .cover .kept .1 .1 .0),
+          omega (arith, few, at-cover .cover .kept .1 .0),
+          omega (arith, few, at-cover .cover .kept .1 .1 .0),
         ),
-        finish-fits _ (at-read .read .ensures) (at-verdict .verdict .given .1) _ _ _ (at-cover .cover .kept .1 .0) (at-cover .cover .kept .1 .1 .0) (at-cover .cover .kept .1 .1 .1 .0) (at-plan .plan .ensures),
+        finish-fits _ (at-read .read .ensures) (at-verdict .verdict .given .1) _ _ _ refl refl refl (at-cover .cover .ensures),
       ),
     )
-
-end-in-requires : tie.Need-end-in-requires
-end-in-requires c κs = search needs
 
 cover-in-requires : tie.Need-cover-in-requires
 cover-in-requires c κs = search needs
@@ -101,26 +98,25 @@ dearest-in-requires c κs = search needs
 
 figures-requires : tie.Need-figures-requires
 figures-requires c κs =
-    let at-lines = c .before .before .before .before in
-    let at-header = at-lines .before .before .before .before .before .before .before in
-    let at-verdict = at-header .before .before .before .before .before .before .before .before .before .before .before .before .before .before .before .before .before in
+    let at-lines = c .before .before .before in
+    let at-header = at-lines .before .before .before .before .before .before .before .before .before .before .before .before in
+    let at-verdict = at-header .before .before .before .before .before .before .before .before .before .before in
     let at-read = at-verdict .before .before in
     omega (arith, few-tasks _ (at-read .read .ensures) (at-verdict .verdict .given .1), at-header .header .ensures .1, at-header .header .kept .0, at-lines .lines .ensures .1, at-lines .lines .kept .0)
 
 returns-2 : tie.Need-returns-2
 returns-2 c =
-    let at-lines = c .before .before .before .before .before in
-    let at-header = at-lines .before .before .before .before .before .before .before in
-    let at-plan = at-header .before .before .before .before .before in
-    let at-cover = at-plan .before .before .before .before .before .before .before in
+    let at-lines = c .before .before .before .before in
+    let at-header = at-lines .before .before .before .before .before .before .before .before .before .before .before .before in
+    let at-cover = at-header .before .before .before .before .before in
     let at-verdict = at-cover .before .before .before .before .before in
     let at-read = at-verdict .before .before in
     let few = few-tasks _ (at-read .read .ensures) (at-verdict .verdict .given .1) in
     let short : c .figures .result ≤ 12288 = omega (arith, few, at-header .header .ensures .1, at-lines .lines .ensures .1, c .figures .ensures .1) in (
-      plan-listed _ (at-read .read .ensures) (at-verdict .verdict .given .1) _ _ _ (at-cover .cover .kept .1 .0) (at-cover .cover .kept .1 .1 .0) (at-cover .cover .kept .1 .1 .1 .0) (at-plan .plan .ensures)
-          _ _ _ refl refl refl (at-cover .cover .ensures) _ _ _
+      plan-listed _ (at-read .read .ensures) (at-verdict .verdict .given .1) _ _ _ refl refl refl (at-cover .cover .ensures) _ _ _
           (at-header .header .ensures .0) (at-lines .lines .ensures .0) (c .figures .ensures .0)
-          (c .before .before .before .end-in .ensures) (c .before .before .cover-in .ensures) (c .before .dearest-in .ensures) (omega (arith, short, at-header .before .header-arg .given .0 .1)),
+          (at-lines .before .before .before .before .before .before .before .last-finish .ensures) (c .before .before .cover-in .ensures) (c .before .dearest-in .ensures)
+          (omega (arith, short, at-header .before .header-arg .given .0 .1)),
       short,
     )
 
@@ -140,15 +136,12 @@ write-spec =
     slice-aggregate-cover-2
     slice-aggregate-cover-3
     cover-requires
-    slice-aggregate-plan
-    slice-aggregate-plan-2
-    slice-aggregate-plan-3
-    plan-requires
     header-requires
+    slice-aggregate-last-finish
+    last-finish-requires
     slice-aggregate-lines
     slice-aggregate-lines-2
     lines-requires
-    end-in-requires
     cover-in-requires
     dearest-in-requires
     figures-requires

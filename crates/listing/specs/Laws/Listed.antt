@@ -1,4 +1,4 @@
--- A listing is whole: a refused file's line, or header, lines and figures of the planner's schedule, which the two calls leave and return.
+-- A listing is whole: a refused file's line, or header, lines and figures of the planner's schedule, which the cover call leaves and measures.
 use mathlib.Core.Path.{_≡_, refl, ap, sym, _∙_}
 use mathlib.Core.List.{List, _++_}
 use Prim.Native.Nat.{ℕ, _+_, _≤_, _<_}
@@ -22,14 +22,17 @@ use Rattle.etf.specs.OfJob.{instance}
 use Rattle.etf.specs.Jobs.{well-formed, no-end-passes}
 use Rattle.etf.specs.Laws.Lists.{upto-of, flatMap-same}
 use Rattle.etf.specs.Laws.Planned.{home, by-end}
-use Rattle.schedule.specs.declared.Planned.{Planned}
+use Rattle.etf.specs.Laws.Bound.{end-by-task}
 use Rattle.schedule.specs.declared.Covered.{Covered}
-use Rattle.schedule.specs.Plan.{PlanCall, called, startOf, processorOf, planAccepted, planFor, planCall}
+use Rattle.schedule.specs.Plan.{startOf, processorOf}
 use Rattle.schedule.specs.Cover.{CoverCall, covered, coverAccepted, coverFor, coverCall}
+use Rattle.schedule.specs.Pass.{most, verdictNumber}
 use Rattle.schedule.specs.Laws.Filled.{filled-at}
+use Rattle.schedule.specs.Laws.Most.{most-same}
+use Rattle.schedule.specs.Laws.Chained.{greatest-upto}
 use Rattle.schedule.specs.Laws.Reading.{refused-is}
 use Rattle.listing.specs.Listing.{text, line, header, taskLines, figures, planListing, listingFor, listing, listed, listingCall}
-use Rattle.listing.specs.Pass.{Put, verdictNumber, endIn, coverIn, dearestIn}
+use Rattle.listing.specs.Pass.{Put, coverIn, dearestIn}
 use Rattle.listing.specs.Laws.Put.{put-then}
 
 -- ---- the same numbers, the same text
@@ -98,25 +101,21 @@ module _ (file : List ℕ) {x : Reading} {m l : ℕ} (e : x ≡ readingOf (readJ
   unfolding instance readingOf
   header-is = header-same (ap (λ (y : Reading). y .platform .processors) reading-is) (sym (found .2)) (sym (found .3))
 
-  -- what the planner's call returns and leaves
-  module _ {r : Planned} {s p t : List ℕ} (s₀ p₀ t₀ : List ℕ) (a : length s₀ ≡ 256) (b : length p₀ ≡ 256) (c : length t₀ ≡ 4096) (h : called r s p t ≡ planCall file s₀ p₀ t₀) where
-    plan-is : called r s p t ≡ planAccepted I s₀ p₀ t₀
-    unfolding planCall planFor instance
-    plan-is =
+  -- what the cover call returns and leaves
+  module _ {q : Covered} {s p t : List ℕ} (s₀ p₀ t₀ : List ℕ) (a : length s₀ ≡ 256) (b : length p₀ ≡ 256) (c : length t₀ ≡ 4096) (h : covered q s p t ≡ coverCall file s₀ p₀ t₀) where
+    cover-is : covered q s p t ≡ coverAccepted I s₀ p₀ t₀
+    unfolding coverCall coverFor instance
+    cover-is =
         h
         ∙ rw (found .1, le-ltb (length s₀) (length (job .tasks)) (omega (arith, sound .few-tasks)), le-ltb (length p₀) (length (job .tasks)) (omega (arith, sound .few-tasks)), le-ltb (length t₀) 4096 (omega arith))
 
-    end-is : endIn r ≡ end I (planned I)
-    unfolding planAccepted
-    end-is = ap (λ (q : PlanCall). endIn (q .answer)) plan-is
-
     start-at : (T : ℕ) → T < tasks I → getD s T 0 ≡ startOf I T
-    unfolding planAccepted
-    start-at T k = ap (λ (q : PlanCall). getD (q .starts) T 0) plan-is ∙ filled-at (startOf I) (tasks I) s₀ T k
+    unfolding coverAccepted
+    start-at T k = ap (λ (y : CoverCall). getD (y .starts) T 0) cover-is ∙ filled-at (startOf I) (tasks I) s₀ T k
 
     processor-at : (T : ℕ) → T < tasks I → getD p T 0 ≡ processorOf I T
-    unfolding planAccepted
-    processor-at T k = ap (λ (q : PlanCall). getD (q .processors) T 0) plan-is ∙ filled-at (processorOf I) (tasks I) p₀ T k
+    unfolding coverAccepted
+    processor-at T k = ap (λ (y : CoverCall). getD (y .processors) T 0) cover-is ∙ filled-at (processorOf I) (tasks I) p₀ T k
 
     -- a finish has 32 bits
     pub finish-fits : (T : ℕ) → T < m → getD s T 0 + getD (x .durations) T 0 < 4294967296
@@ -126,32 +125,34 @@ module _ (file : List ℕ) {x : Reading} {m l : ℕ} (e : x ≡ readingOf (readJ
         let b : T < length (job .tasks) = omega (arith, found .2) in
         omega (arith, start-at T b, duration-at T, by-end I W T b, no-end-passes job sound, ap (duration I) (home I W T b .1))
 
+    -- the greatest finish is the plan's end
+    end-is : most m (λ T. getD s T 0 + getD (x .durations) T 0) ≡ end I (planned I)
+    unfolding startOf instance
+    end-is =
+        let W = well-formed job sound in
+        most-same m (λ T. getD s T 0 + getD (x .durations) T 0) (λ T. startOf I T + duration I T)
+        (λ T k. let b : T < length (job .tasks) = omega (arith, found .2) in omega (arith, start-at T b, duration-at T))
+        ∙ (ap (λ (n : ℕ). most n (λ T. startOf I T + duration I T)) (sym (found .2))
+        ∙ (sym (greatest-upto (λ T. startOf I T + duration I T) (length (job .tasks))) ∙ end-by-task I W))
+
     lines-are : taskLines m (λ T. getD p T 0) (λ T. getD s T 0) (λ T. getD (x .durations) T 0) ≡ taskLines (tasks I) (processorOf I) (startOf I) (duration I)
     unfolding instance
     lines-are = lines-same _ _ _ _ _ _ (sym (found .2)) processor-at start-at (λ T k. duration-at T)
 
-    -- the whole listing
-    module _ {q : Covered} {s₁ p₁ t₁ : List ℕ} (s₂ p₂ t₂ : List ℕ) (a₂ : length s₂ ≡ 256) (b₂ : length p₂ ≡ 256) (c₂ : length t₂ ≡ 4096) (g : covered q s₁ p₁ t₁ ≡ coverCall file s₂ p₂ t₂) where
-      cover-is : covered q s₁ p₁ t₁ ≡ coverAccepted I s₂ p₂ t₂
-      unfolding coverCall coverFor instance
-      cover-is =
-          g
-          ∙ rw (found .1, le-ltb (length s₂) (length (job .tasks)) (omega (arith, sound .few-tasks)), le-ltb (length p₂) (length (job .tasks)) (omega (arith, sound .few-tasks)), le-ltb (length t₂) 4096 (omega arith))
+    cover-right : coverIn q ≡ cover I
+    unfolding coverAccepted
+    cover-right = ap (λ (y : CoverCall). coverIn (y .answer)) cover-is
 
-      cover-right : coverIn q ≡ cover I
-      unfolding coverAccepted
-      cover-right = ap (λ (y : CoverCall). coverIn (y .answer)) cover-is
+    dearest-right : dearestIn q ≡ dearest I
+    unfolding coverAccepted
+    dearest-right = ap (λ (y : CoverCall). dearestIn (y .answer)) cover-is
 
-      dearest-right : dearestIn q ≡ dearest I
-      unfolding coverAccepted
-      dearest-right = ap (λ (y : CoverCall). dearestIn (y .answer)) cover-is
-
-      pub plan-listed : {out o₁ o₂ o₃ : List ℕ} {i j k : ℕ} (E C D : ℕ)
-          → Put out o₁ 0 i (header (x .platform .processors) m l)
-          → Put o₁ o₂ i j (taskLines m (λ T. getD p T 0) (λ T. getD s T 0) (λ T. getD (x .durations) T 0))
-          → Put o₂ o₃ j k (figures E C D)
-          → E ≡ endIn r → C ≡ coverIn q → D ≡ dearestIn q → k ≤ length out → listed k o₃ ≡ listingCall file out
-      unfolding listing listingFor planListing
-      plan-listed E C D first second third e-is c-is d-is fits =
-          put-front file (put-then first (put-then second third))
-          (listing-same header-is lines-are (e-is ∙ end-is) (c-is ∙ cover-right) (d-is ∙ dearest-right) ∙ ap listingFor (sym (found .1))) fits
+    pub plan-listed : {out o₁ o₂ o₃ : List ℕ} {i j k : ℕ} (E C D : ℕ)
+        → Put out o₁ 0 i (header (x .platform .processors) m l)
+        → Put o₁ o₂ i j (taskLines m (λ T. getD p T 0) (λ T. getD s T 0) (λ T. getD (x .durations) T 0))
+        → Put o₂ o₃ j k (figures E C D)
+        → E ≡ most m (λ T. getD s T 0 + getD (x .durations) T 0) → C ≡ coverIn q → D ≡ dearestIn q → k ≤ length out → listed k o₃ ≡ listingCall file out
+    unfolding listing listingFor planListing
+    plan-listed E C D first second third e-is c-is d-is fits =
+        put-front file (put-then first (put-then second third))
+        (listing-same header-is lines-are (e-is ∙ end-is) (c-is ∙ cover-right) (d-is ∙ dearest-right) ∙ ap listingFor (sym (found .1))) fits

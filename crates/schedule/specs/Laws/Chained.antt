@@ -46,7 +46,7 @@ greatest-append f [] t = omega arith
 greatest-append f (x ∷ s) t = omega (arith, greatest-append f s t)
 
 -- the greatest over 0, 1, .. , n - 1
-greatest-upto : (f : ℕ → ℕ) (n : ℕ) → greatest f (upto n) ≡ most n f
+pub greatest-upto : (f : ℕ → ℕ) (n : ℕ) → greatest f (upto n) ≡ most n f
 unfolding greatest upto most
 greatest-upto f zero = refl
 greatest-upto f (suc n) = omega (arith, greatest-append f (upto n) (n ∷ []), greatest-upto f n)
