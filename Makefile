@@ -9,74 +9,64 @@
 # make definitions   holds the definitions of crate etf to the reference planner on random jobs: SEED=.. JOBS=..
 # make clean         removes what was made
 
-need = @command -v $(1) >/dev/null 2>&1 || { echo "$(1) is not on the path: $(2)"; exit 2; }
-need-rt = $(call need,rt,install the Rattle kit and link its bin/rt)
-need-python = $(call need,python3,install Python 3)
-need-rust = $(call need,rustc,install Rust)
-need-cc = $(call need,cc,install a C compiler)
+.PHONY: run test check bench host differential examples vectors definitions clean
+.PHONY: job-named has-rt has-python3 has-cc has-rustc
 
 libraries = target/staticlib/libkelvrist.a target/staticlib/libtiming.a
 
-.PHONY: run job-named test check bench host differential examples vectors definitions clean
-
-run: job-named target/bin/plan
+run: job-named has-rt target/bin/plan
 	@target/bin/plan <"$(JOB)"
-
-job-named:
-	@[ -n "$(JOB)" ] || { echo "which job? for example: make run JOB=examples/a.job"; exit 2; }
-	@[ -f "$(JOB)" ] && [ -r "$(JOB)" ] || { echo "$(JOB) is no file that can be read"; exit 2; }
 
 test:
 	@tests/gate
 
-check:
-	$(need-rt)
+check: has-rt
 	@rt check
 
-bench: $(libraries)
-	$(need-rust)
-	$(need-cc)
+bench: has-rt has-cc has-rustc $(libraries)
 	@rustc --edition 2021 -O -C target-cpu=x86-64 -C codegen-units=1 \
 		-L native=target/staticlib -l static=timing -l static=kelvrist -o target/bench bench/main.rs
 	@target/bench crates/vectors/stdin
 
-host: target/staticlib/libkelvrist.a
-	$(need-cc)
-	$(need-python)
+host: has-rt has-cc has-python3 target/staticlib/libkelvrist.a
 	@tests/c_host/run
 	@python3 tests/readme.py
 
-differential: $(libraries) target/bin/plan
-	$(need-cc)
-	$(need-python)
+differential: has-rt has-cc has-python3 $(libraries) target/bin/plan
 	@python3 tests/differential/differential.py seed=$(SEED) jobs=$(JOBS)
 	@python3 tests/differential/program.py seed=$(SEED) jobs=$(JOBS)
 
-examples:
-	$(need-python)
+examples: has-python3
 	@python3 tests/examples.py
 
-vectors:
-	$(need-python)
+vectors: has-python3
 	@python3 tests/make_vectors.py
 
-definitions:
-	$(need-rt)
-	$(need-python)
+definitions: has-rt has-python3
 	@python3 tests/definitions.py seed=$(SEED) jobs=$(JOBS)
+
+clean:
+	@rm -rf target
 
 # What is built is proved and written again where a file of its crates is newer. What rt says goes to standard error.
 sources = crates.txt $(shell find $(1:%=crates/%) -name '*.rt' -o -name '*.antt')
 target/staticlib/libkelvrist.a: $(call sources,job etf schedule kelvrist)
 target/staticlib/libtiming.a: $(call sources,job etf schedule timing)
 target/staticlib/lib%.a:
-	$(need-rt)
 	@rt staticlib $* >&2
 
 target/bin/plan: $(call sources,job etf schedule listing plan)
-	$(need-rt)
 	@rt check plan >&2
 	@touch $@
 
-clean:
-	@rm -rf target
+# What is missing is said before anything is built.
+job-named:
+	@[ -n "$(JOB)" ] || { echo "which job? for example: make run JOB=examples/a.job"; exit 2; }
+	@[ -f "$(JOB)" ] && [ -r "$(JOB)" ] || { echo "$(JOB) is no file that can be read"; exit 2; }
+
+has-rt: advice = install the Rattle kit and link its bin/rt
+has-python3: advice = install Python 3
+has-cc: advice = install a C compiler
+has-rustc: advice = install Rust
+has-rt has-python3 has-cc has-rustc: has-%:
+	@command -v $* >/dev/null 2>&1 || { echo "$* is not on the path: $(advice)"; exit 2; }
