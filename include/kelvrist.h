@@ -13,7 +13,7 @@
  *         begin(t, plan[5 * t], start_in(plan + 5 * t + 1));
  *
  * Any bytes may be handed in, and every call returns. What the two functions answer is proved for all
- * inputs; the statements are in crates/schedule/specs/PlanBytes.antt.
+ * inputs; the statements are in crates/kelvrist/specs/PlanBytes.antt.
  *
  *
  * The job's bytes
