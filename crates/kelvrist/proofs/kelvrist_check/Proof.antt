@@ -24,13 +24,13 @@ module _ (n : ℕ) {t : ℕ} (t-is : t ≡ wholeTasks n) where
   in-array h = omega arith
 
 -- what `check` says of them has the call's number
-answers : (file plan starts processors : List ℕ) {t n : ℕ} {c : Checked} → t ≡ wholeTasks (length plan) → length starts ≡ 256 → length processors ≡ 256
-    → ((T : ℕ) → T < t → (getD starts T 0 ≡ startIn plan T) × (getD processors T 0 ≡ processorIn plan T))
+answers : (file plan starts processors : List ℕ) {t n : ℕ} {c : Checked} (k : ℕ) → t ≡ wholeTasks (length plan) → length starts ≡ 256 → length processors ≡ 256
+    → ((T : ℕ) → T < k → (getD starts T 0 ≡ startIn plan T) × (getD processors T 0 ≡ processorIn plan T)) → k ≡ t
     → c ≡ checkCall file (take t starts) (take t processors) → n ≡ checkNumber c → n ≡ checkBytesCall file plan
-answers file plan starts processors {t} t-is a b got c-is n-is =
+answers file plan starts processors {t} k t-is a b got k-is c-is n-is =
     n-is ∙ (ap checkNumber c-is ∙ sym (check-number file plan (take t starts) (take t processors)
     (length-take-le t starts (in-array (length plan) t-is a) ∙ t-is) (length-take-le t processors (in-array (length plan) t-is b) ∙ t-is)
-    (λ T h. let k : T < t = omega (arith, t-is) in (getD-take t starts T 0 k ∙ got T k .0, getD-take t processors T 0 k ∙ got T k .1))))
+    (λ T h. let i : T < t = omega (arith, t-is) in let j : T < k = omega (arith, k-is) in (getD-take t starts T 0 i ∙ got T j .0, getD-take t processors T 0 i ∙ got T j .1))))
 
 whole-tasks-requires : tie.Need-whole-tasks-requires
 whole-tasks-requires c κs = search needs
@@ -44,7 +44,8 @@ slice-aggregate-get-2 c = search needs
 get-requires : tie.Need-get-requires
 get-requires c κs =
     let t-is = c .before .before .whole-tasks .ensures in
-    (in-array _ t-is refl, in-array _ t-is refl, in-bytes _ t-is)
+    let few = in-array _ t-is {l = 256} refl in
+    (omega (arith, few), omega (arith, few), omega (arith, in-bytes _ t-is))
 
 array-share-prefix-starts : tie.Need-array-share-prefix-starts
 array-share-prefix-starts c =
@@ -77,7 +78,7 @@ returns c =
     let at-check = c .before in
     let at-get = at-check .before .before .before .before .before in
     let t-is = at-get .before .before .before .whole-tasks .ensures in
-    answers _ _ _ _ t-is (at-get .get .kept .1 .1 .0) (at-get .get .kept .1 .1 .1 .0) (at-get .get .ensures) (at-check .check .ensures) (c .check-number .ensures)
+    answers _ _ _ _ _ t-is (at-get .get .kept .1 .1 .0) (at-get .get .kept .1 .1 .1 .0) (at-get .get .ensures) (omega arith) (at-check .check .ensures) (c .check-number .ensures)
 
 pub kelvrist-check-spec : {M : Type 1} → statement M
 kelvrist-check-spec =

@@ -193,7 +193,7 @@ returns c =
     let at-index = at-index2 .before .before in
     let at-test = at-index .before .before in
     early _ _ _ _ _ _ _ _ _ (at-test .loop-test .taken) _ (at-test .before .loop .inv .1) _ _ _ _ _
-    (at-index .index .ensures .0) (at-index2 .index2 .ensures .0) (at-index3 .index3 .ensures .0) (at-index4 .index4 .ensures .0) (at-wide16 .wide16 .ensures) (c .if1 .taken)
+    (at-index .index .ensures .0) (at-index2 .index2 .ensures .0) (at-index3 .index3 .ensures .0) (at-index4 .index4 .ensures .0) (at-wide16 .wide16 .ensures) (omega (arith, c .if1 .taken))
 
 add-k : tie.Need-add-k Inv-loop μ-loop
 add-k c = search needs
