@@ -174,9 +174,9 @@ def hold(program, data, ways, dice):
 def hold_failures(program):
     """What cannot be read or written gives one line on standard error, nothing on standard output, and status 0."""
     data = etf.write(next(worked())[1])
-    with open("/dev/null", "wb") as unreadable, open("/dev/full", "wb") as full:
+    with open("/dev/null", "wb") as unreadable, open("/dev/null", "rb") as unwritable:
         read = subprocess.run([program], stdin=unreadable, capture_output=True, timeout=SECONDS)
-        write = subprocess.run([program], input=data, stdout=full, stderr=subprocess.PIPE, timeout=SECONDS)
+        write = subprocess.run([program], input=data, stdout=unwritable, stderr=subprocess.PIPE, timeout=SECONDS)
     for what, done in (("read", read), ("write", write)):
         said = done.stderr.decode("latin-1")
         if done.stdout or done.returncode or not re.fullmatch(f"plan: {what}: [^\n]+\n", said):
