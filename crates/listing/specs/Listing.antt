@@ -30,10 +30,11 @@ digits (suc k) x = pick (ltb x 10) ((48 + x) ∷ []) (digits k (x / 10) ++ ((48 
 unfoldable pub decimal : ℕ → List ℕ
 decimal x = digits 10 x
 
--- a number and the byte that follows it
+-- a number and the byte that follows it, a space or a line feed
 unfoldable pub field : ℕ → ℕ → List ℕ
 field x next = decimal x ++ (next ∷ [])
 
+-- what parts the numbers of a line
 abbrev pub space : ℕ
 space = 32
 

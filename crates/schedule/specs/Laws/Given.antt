@@ -3,7 +3,8 @@
 use mathlib.Core.Path.{_≡_, refl, sym, ap, subst}
 use mathlib.Core.Logic.{_⊎_, inl, inr}
 use mathlib.Core.List.{List, []}
-use Prim.Native.Nat.{ℕ, zero, suc, _≤_, _<_}
+use Prim.Native.Nat.{ℕ, zero, suc, _*_, _≤_, _<_}
+use native.Mathlib.Nat.{mul-le-mul}
 use native.Mathlib.Omega.{arith}
 use lib.ListN.{length, getD}
 use Rattle.job.specs.declared.Platform.{Platform}
@@ -20,6 +21,10 @@ use Rattle.etf.specs.Laws.OfJob.{of-job, few, short-tasks}
 use Rattle.schedule.specs.Pass.{InArrays}
 use Rattle.schedule.specs.Laws.Lists.{value-at}
 use Rattle.schedule.specs.Laws.Progress.{Given}
+
+-- what at most 1,000 messages take
+pub message-most : (w x c : ℕ) → w ≡ x → x ≤ 1000 → c ≤ 800 → w * c ≤ 800000
+message-most w x c e h k = let q : w ≤ 1000 = omega arith in mul-le-mul q k
 
 module _ {platform : Platform} {m l : ℕ} {durations from to counts : List ℕ} {costs : List (List ℕ)} (A : InArrays platform m l durations from to counts costs) where
   -- the job, and its instance

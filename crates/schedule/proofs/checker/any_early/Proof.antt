@@ -3,7 +3,6 @@ use mathlib.Core.Path.{_≡_, sym, _∙_}
 use mathlib.Core.Bool.{Bool, true}
 use mathlib.Core.List.{List, []}
 use Prim.Native.Nat.{ℕ, _+_, _*_, _-_, _≤_, _<_}
-use native.Mathlib.Nat.{mul-le-mul}
 use native.Mathlib.Omega.{arith}
 use borrow.Author.Needs.{needs}
 use borrow.Author.Tests.{lt-ltb, le-ltb}
@@ -11,6 +10,7 @@ use lib.Dec.{ltb}
 use lib.ListN.{getD}
 use Rattle.schedule.specs.Pass.{Judgeable, someIn, earlyAt}
 use Rattle.schedule.specs.Laws.Rows.{all-left, none-left, met, passed}
+use Rattle.schedule.specs.Laws.Given.{message-most}
 use Rattle.schedule.proofs.checker.any_early.Statement.{statement}
 use Rattle.schedule.proofs.checker.any_early.Tie as tie
 
@@ -25,9 +25,6 @@ near processors m f s x p e h d = rw d (f s (omega arith))
 sent-most : (m : ℕ) (durations starts processors : List ℕ) → Judgeable m durations starts processors → (s x : ℕ) → s ≡ x → x < m
     → getD starts s 0 + getD durations s 0 ≤ 601000000
 sent-most m durations starts processors j s x e h = omega (arith, j .in-time s (omega arith), j .short s (omega arith))
-
-message-most : (w x c : ℕ) → w ≡ x → x ≤ 1000 → c ≤ 800 → w * c ≤ 800000
-message-most w x c e h k = let q : w ≤ 1000 = omega arith in mul-le-mul q k
 
 -- edge k, by what the loop read: tasks s and t, their processors p and q, and w messages
 module _ (durations starts processors from to counts : List ℕ) (costs : List (List ℕ)) (k l : ℕ) (h : k < l) (all : Bool)

@@ -3,19 +3,15 @@ use mathlib.Core.Path.{_≡_, refl, ap, _∙_}
 use mathlib.Core.Logic.{_⊎_, inl, inr, ⊎-elim}
 use mathlib.Core.List.{List}
 use Prim.Native.Nat.{ℕ, _+_, _*_, _-_, _≤_, _<_, max}
-use native.Mathlib.Nat.{mul-le-mul}
 use native.Mathlib.Omega.{arith}
 use borrow.Author.Needs.{needs}
 use lib.ListN.{length, getD, set, length-set}
 use lib.Seq.{getD-set-same, getD-set-other}
 use Rattle.job.specs.Laws.Number.{lt-or-ge}
 use Rattle.schedule.specs.Pass.{Raised}
+use Rattle.schedule.specs.Laws.Given.{message-most}
 use Rattle.schedule.proofs.planner.raise.Statement.{statement}
 use Rattle.schedule.proofs.planner.raise.Tie as tie
-
--- a message count times a cost is at most 800,000
-small : (count cost : ℕ) → count ≤ 1000 → cost ≤ 800 → count * cost ≤ 800000
-small count cost h k = omega (arith, mul-le-mul h k)
 
 -- no processor's arrival is raised yet
 begun : (T finish count : ℕ) (row before : List ℕ) → Raised 0 T finish count row before before
@@ -68,12 +64,12 @@ shared-slice-read-arrival c = search needs
 mul-arrival-2 : tie.Need-mul-arrival-2 Inv-loop μ-loop
 mul-arrival-2 c =
     let pre = c .before .before .before .pre .1 in
-    record { fits = omega (arith, small _ _ (pre .1) (pre .2 (c .before .before .loop .p))) }
+    record { fits = omega (arith, message-most _ _ _ refl (pre .1) (pre .2 (c .before .before .loop .p))) }
 
 add-arrival : tie.Need-add-arrival Inv-loop μ-loop
 add-arrival c =
     let pre = c .before .before .before .pre .1 in
-    record { fits = omega (arith, pre .0, small _ _ (pre .1) (pre .2 (c .before .before .loop .p))) }
+    record { fits = omega (arith, pre .0, message-most _ _ _ refl (pre .1) (pre .2 (c .before .before .loop .p))) }
 
 mul-if1 : tie.Need-mul-if1 Inv-loop μ-loop
 mul-if1 c = search needs
