@@ -24,9 +24,9 @@ use Rattle.schedule.specs.declared.Checked.the-variants.{Yes, Refused as NotChe
 use Rattle.schedule.specs.Plan.{called, planCall}
 use Rattle.schedule.specs.Cover.{covered, coverCall}
 use Rattle.schedule.specs.Check.{checkFor, checkCall}
-use Rattle.schedule.specs.Laws.Reading.{refused-is}
+use Rattle.job.specs.Accepted.{refused-is}
 use Rattle.kelvrist.specs.PlanBytes.{returned, processorIn, startIn, planBytesCall, checkBytesFor, checkBytesCall}
-use Rattle.listing.specs.Listing.{text, line, planListing, listing}
+use Rattle.listing.specs.Listing.{refusalLine, planListing, listing}
 use Rattle.demands.specs.Laws.Printed.{prints}
 use Rattle.demands.specs.Laws.Judged.{read-answers, check-refuses, check-answers, check-returns, check-returns-number, write-answers, write-leaves}
 use Rattle.demands.specs.Laws.Refused.{plan-answered, plan-number, plan-cause, plan-refused, cover-answered, cover-cause, cover-refused}
@@ -48,7 +48,7 @@ module _ (file : List ℕ) where
 
   -- the program prints a plan, or the reader's number, 1 to 8, and nothing else
   pub program-answers : ((j : Job) × (readJob file ≡ accepted j) × (listing file ≡ planListing (instance j)))
-      ⊎ ((k : ℕ) × (readJob file ≡ refused k) × (1 ≤ k) × (k ≤ 8) × (listing file ≡ line (text "refused ") k))
+      ⊎ ((k : ℕ) × (readJob file ≡ refused k) × (1 ≤ k) × (k ≤ 8) × (listing file ≡ refusalLine k))
   program-answers = prints file
 
   module _ (starts processors scratch : List ℕ) where

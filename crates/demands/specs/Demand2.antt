@@ -4,13 +4,13 @@ use mathlib.Core.Path.{_≡_, refl}
 use mathlib.Core.List.{List, _++_}
 use Prim.Native.Nat.{ℕ, _*_, _≤_, _<_}
 use lib.ListN.{length, getD, take, drop}
+use Rattle.base.specs.Number.{Bytes}
 use Rattle.job.specs.declared.Platform.{Platform}
 use Rattle.job.specs.declared.Written.the-variants.{Length}
 use Rattle.job.specs.Job.{Edge, Job}
 use Rattle.job.specs.Read.{accepted, readJob, readingOf}
 use Rattle.job.specs.Write.{heldJob, Held, writeAnswer, writeOut}
 use Rattle.job.specs.RoundTrip.{written-read, read-held, read-written}
-use Rattle.job.specs.Laws.Number.{Bytes}
 use Rattle.etf.specs.Instance.{tasks}
 use Rattle.etf.specs.Schedule.{placementOf, scheduleOf, end}
 use Rattle.etf.specs.Rule.{planned}

@@ -2,6 +2,7 @@
 use mathlib.Core.Path.{_≡_, ap, _∙_}
 use mathlib.Core.List.{List}
 use Prim.Native.Nat.{ℕ, _+_, _*_, _-_, _≤_}
+use lib.ListN.{length}
 use Rattle.job.specs.Job.{Job}
 use Rattle.job.specs.Read.{accepted, readJob}
 use Rattle.job.specs.Accepted.{accepted-job}
@@ -17,7 +18,9 @@ use Rattle.schedule.specs.declared.Planned.the-variants.{Plan}
 use Rattle.schedule.specs.declared.Covered.the-variants.{Cover}
 use Rattle.schedule.specs.Plan.{planCall}
 use Rattle.schedule.specs.Cover.{coverCall}
+use Rattle.demands.specs.Room.{HasRoom}
 use Rattle.demands.specs.Laws.Calls.{planned-as, covered-as, one-job}
+use Rattle.demands.specs.Laws.Refused.{plan-taken, cover-taken}
 
 -- what is promised of the numbers E, C and D that the calls report for a file
 pub record Promised (file : List ℕ) (E C D : ℕ) : Type 0 where
@@ -59,3 +62,30 @@ worst-case file m E C D starts processors scratch p starts₂ processors₂ scra
           cover-within = rw (c, d) (within (instance j) W ideal .cover-within);
           some-schedule = ideal;
         }
+
+-- what both calls answer for a file of m tasks, each with slices of its own
+pub record Reported (file : List ℕ) (m : ℕ) (starts processors scratch starts₂ processors₂ scratch₂ : List ℕ) : Type 0 where
+  pub E : ℕ
+  pub C : ℕ
+  pub D : ℕ
+  pub planner-reports : planCall file starts processors scratch .answer ≡ Plan m E
+  pub cover-reports : coverCall file starts₂ processors₂ scratch₂ .answer ≡ Cover C D
+  pub promised : Promised file E C D
+
+-- 00: "Whatever job is accepted ..": with room in the slices both calls report, and what is promised holds of what they report
+pub accepted-job-within : (file : List ℕ) (j : Job) → readJob file ≡ accepted j
+    → (starts processors scratch : List ℕ) → HasRoom (length (j .tasks)) starts processors scratch
+    → (starts₂ processors₂ scratch₂ : List ℕ) → HasRoom (length (j .tasks)) starts₂ processors₂ scratch₂
+    → Reported file (length (j .tasks)) starts processors scratch starts₂ processors₂ scratch₂
+unfolding instance
+accepted-job-within file j e starts processors scratch r starts₂ processors₂ scratch₂ r₂ =
+    let p = plan-taken file starts processors scratch (j, e, r) in
+    let c = cover-taken file starts₂ processors₂ scratch₂ (j, e, r₂) in
+    record {
+      E = end (instance j) (planned (instance j));
+      C = cover (instance j);
+      D = dearest (instance j);
+      planner-reports = p;
+      cover-reports = c;
+      promised = worst-case file _ _ _ _ starts processors scratch p starts₂ processors₂ scratch₂ c;
+    }

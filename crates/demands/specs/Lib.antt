@@ -1,3 +1,4 @@
+pub mod Room
 -- the demands of the notice, each in its file
 pub mod Demand1
 pub mod Demand2

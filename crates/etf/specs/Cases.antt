@@ -5,9 +5,9 @@ use mathlib.Core.Path.{_≡_, refl, sym, _∙_}
 use mathlib.Core.List.{List, [], _∷_, _++_, map, flatMap, map-append}
 use Prim.Native.Nat.{ℕ}
 use lib.ListN.{getD}
+use Rattle.base.specs.Lists.{upto, any, all, filter, greatest, keep, best}
 use Rattle.job.specs.declared.Platform.{Platform}
 use Rattle.job.specs.Job.{Edge, Job}
-use Rattle.etf.specs.Lists.{upto, any, all, filter, greatest, keep, best}
 use Rattle.etf.specs.Instance.{Instance, duration, into, messageTime}
 use Rattle.etf.specs.Schedule.{Placement, placed, placementOf, finish, messageTimeTo, arrival, end, scheduleOf, byTask}
 use Rattle.etf.specs.Rule.{atMost, move, settle, nextMoment, free, finished, ready, pair, pairs, choice, complete, round, run, planned, roundsIn, rounds}

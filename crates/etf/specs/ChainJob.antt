@@ -5,15 +5,15 @@ use mathlib.Core.List.{map}
 use Prim.Native.Nat.{ℕ, suc, _-_, _*_, _≤_, _<_}
 use native.Mathlib.Omega.{arith}
 use lib.ListN.{length, replicate, length-replicate, getD-replicate}
+use Rattle.base.specs.Lists.{upto}
+use Rattle.base.specs.Laws.Lists.{upto-in, map-in, map-upto-at, map-upto-length}
 use Rattle.job.specs.Job.{Edge, Job}
 use Rattle.job.specs.Accepted.{Accepted, duration, edgeAt}
-use Rattle.etf.specs.Lists.{upto}
 use Rattle.etf.specs.Instance.{TaskChain, tasks}
 use Rattle.etf.specs.Rule.{rounds}
 use Rattle.etf.specs.OfJob.{instance}
 use Rattle.etf.specs.Placing.{chain-rounds}
 use Rattle.etf.specs.Jobs.{well-formed}
-use Rattle.etf.specs.Laws.Lists.{upto-in, map-in, map-upto-at, map-upto-length}
 
 -- a message from task T to the next
 abbrev arrow : ℕ → Edge

@@ -5,9 +5,9 @@ use mathlib.Core.Path.{_≡_}
 use mathlib.Core.List.{List}
 use Prim.Native.Nat.{ℕ, zero, suc, _+_, _<_}
 use lib.Dec.{leb, ltb, eqb}
-use Rattle.job.specs.Number.{pick}
+use Rattle.base.specs.Choice.{pick}
+use Rattle.base.specs.Lists.{_∈_, upto, any, filter, best}
 use Rattle.job.specs.Job.{Edge}
-use Rattle.etf.specs.Lists.{_∈_, upto, any, filter, best}
 use Rattle.etf.specs.Instance.{Instance, tasks, duration, into}
 use Rattle.etf.specs.Schedule.{Placement, placementOf, finish, messageTimeTo, reach, end}
 use Rattle.etf.specs.Rule.{planned}

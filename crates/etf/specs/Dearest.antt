@@ -2,8 +2,8 @@
 use mathlib.Core.Path.{_≡_}
 use mathlib.Core.List.{List, [], _∷_}
 use Prim.Native.Nat.{ℕ, zero, suc, _+_, _*_}
+use Rattle.base.specs.Lists.{_∈_, upto, greatest}
 use Rattle.job.specs.Job.{Edge}
-use Rattle.etf.specs.Lists.{_∈_, upto, greatest}
 use Rattle.etf.specs.Instance.{Instance, tasks, into}
 
 -- a chain of edges, the last first, ends at task T

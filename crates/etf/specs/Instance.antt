@@ -4,8 +4,8 @@ use mathlib.Core.List.{List}
 use Prim.Native.Nat.{ℕ, suc, _*_, _≤_, _<_}
 use lib.Dec.{eqb}
 use lib.ListN.{length, getD}
+use Rattle.base.specs.Lists.{_∈_, filter}
 use Rattle.job.specs.Job.{Edge}
-use Rattle.etf.specs.Lists.{_∈_, filter}
 
 -- an instance of the planning problem: n `processors` (01: boards), the `durations` of the tasks (01: steps) from task 0 on, the `edges` (01: links).
 -- `cost p q` is what one message takes from processor p to processor q, any function: the two ways may differ, and nothing is said of p to p.

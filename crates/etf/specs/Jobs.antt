@@ -6,9 +6,9 @@ use mathlib.Core.List.{[]}
 use Prim.Native.Nat.{ℕ, _≤_, _<_}
 use native.Mathlib.Omega.{arith}
 use lib.ListN.{getD}
+use Rattle.base.specs.Lists.{_∈_}
 use Rattle.job.specs.Job.{Job}
 use Rattle.job.specs.Accepted.{Accepted}
-use Rattle.etf.specs.Lists.{_∈_}
 use Rattle.etf.specs.Instance.{Instance, WellFormed, tasks}
 use Rattle.etf.specs.Schedule.{Placement, finish, arrival, end, byTask}
 use Rattle.etf.specs.Rule.{begin, run, planned}

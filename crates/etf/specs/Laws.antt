@@ -1,7 +1,5 @@
 -- What follows from the definitions and serves the proofs; a reader of the definitions and the theorems needs none of it.
-pub mod Tests
-pub mod Lists
-pub mod Sums
+pub mod Running
 pub mod Placements
 pub mod Turn
 pub mod Sound

@@ -1,5 +1,4 @@
 -- definitions, in the order of document 01
-pub mod Lists
 pub mod Instance
 pub mod Schedule
 pub mod Topology

@@ -1,7 +1,7 @@
 -- The instance of a job: what the planner plans.
 use lib.ListN.{length}
+use Rattle.base.specs.Lists.{upto}
 use Rattle.job.specs.Job.{Job}
-use Rattle.etf.specs.Lists.{upto}
 use Rattle.etf.specs.Instance.{Instance}
 use Rattle.etf.specs.Topology.{cost}
 

@@ -8,11 +8,11 @@ use native.Mathlib.Omega.{arith}
 use lib.Dec.{eqb}
 use lib.Dec.{T as Holds}
 use lib.ListN.{length}
-use Rattle.etf.specs.Lists.{_∈_, filter}
+use Rattle.base.specs.Lists.{_∈_, filter}
+use Rattle.base.specs.Laws.Tests.{not-both}
 use Rattle.etf.specs.Instance.{Instance, WellFormed, TaskChain, tasks}
 use Rattle.etf.specs.Schedule.{Placement}
 use Rattle.etf.specs.Rule.{State, begin, nextMoment, complete, round, run, planned, rounds}
-use Rattle.etf.specs.Laws.Tests.{not-both}
 use Rattle.etf.specs.Laws.Turn.{Turn, rest, put, tick, stuck, turn}
 use Rattle.etf.specs.Laws.Planned
 use Rattle.etf.specs.Laws.Rounds

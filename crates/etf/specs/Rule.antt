@@ -4,9 +4,9 @@ use mathlib.Core.Option.{Option, none, some}
 use mathlib.Core.List.{List, [], _∷_, map, flatMap}
 use Prim.Native.Nat.{ℕ, zero, suc, _+_, _*_, max}
 use lib.Dec.{leb, ltb, eqb}
-use Rattle.job.specs.Number.{pick}
+use Rattle.base.specs.Choice.{pick}
+use Rattle.base.specs.Lists.{upto, all, filter, best}
 use Rattle.job.specs.Job.{Edge}
-use Rattle.etf.specs.Lists.{upto, all, filter, best}
 use Rattle.etf.specs.Instance.{Instance, tasks, into}
 use Rattle.etf.specs.Schedule.{Placement, placed, placementOf, finish, arrival}
 

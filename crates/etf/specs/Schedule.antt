@@ -3,9 +3,9 @@ use mathlib.Core.Bool.{Bool}
 use mathlib.Core.List.{List, [], _∷_, map}
 use Prim.Native.Nat.{ℕ, _+_}
 use lib.Dec.{eqb}
-use Rattle.job.specs.Number.{pick}
+use Rattle.base.specs.Choice.{pick}
+use Rattle.base.specs.Lists.{upto, any, greatest}
 use Rattle.job.specs.Job.{Edge}
-use Rattle.etf.specs.Lists.{upto, any, greatest}
 use Rattle.etf.specs.Instance.{Instance, tasks, duration, into, messageTime}
 
 -- a task, its processor (01: board) and its start

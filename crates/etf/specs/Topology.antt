@@ -4,9 +4,9 @@ use mathlib.Core.List.{List, map}
 use Prim.Native.Nat.{ℕ, _-_, _*_, _/_, _%_, _^_, min}
 use lib.Dec.{ltb, eqb}
 use lib.ListN.{length}
+use Rattle.base.specs.Choice.{pick}
+use Rattle.base.specs.Lists.{upto, filter}
 use Rattle.job.specs.declared.Platform.{Platform}
-use Rattle.job.specs.Number.{pick}
-use Rattle.etf.specs.Lists.{upto, filter}
 
 -- the digit of p at binary place i
 abbrev pub binaryPlace : ℕ → ℕ → ℕ

@@ -6,13 +6,14 @@ use mathlib.Core.Path.{_≡_, refl, _∙_}
 use mathlib.Core.List.{List}
 use Prim.Native.Nat.{ℕ, suc, _≤_, _<_}
 use lib.ListN.{length, getD, List·getD-eq-default}
-use Rattle.job.specs.declared.Verdict.the-variants.{Counts}
+use Rattle.job.specs.declared.Verdict.the-variants.{Counts, Refused}
+use Rattle.base.specs.Laws.Tests.{impossible}
 use Rattle.job.specs.declared.Reading.{Reading}
 use Rattle.job.specs.Job.{Edge, Job, blank}
 use Rattle.job.specs.Read.{Answer, accepted, refused, readJob, readingOf}
 use Rattle.job.specs.Laws.Turn.{reads}
 use Rattle.job.specs.Laws.Lists.{padded-length, padded-at, column-length, column-at, column-spare}
-use Rattle.job.specs.Laws.Tests.{never, platform-facts, duration-facts, count-facts, joins-facts, rises-facts}
+use Rattle.job.specs.Laws.Tests.{platform-facts, duration-facts, count-facts, joins-facts, rises-facts}
 use Rattle.job.specs.Laws.Kept.{noEdge, nothing, kept}
 
 -- the duration of task t
@@ -70,7 +71,13 @@ pub counted : (a : Answer) (m l : ℕ) → readingOf a .verdict ≡ Counts m l �
     (j : Job) × (a ≡ accepted j) × (length (j .tasks) ≡ m) × (length (j .edges) ≡ l)
 unfolding readingOf
 counted (accepted j) m l e = (j, refl, cc, cc)
-counted (refused k) m l e = let z : false ≡ true = cc in never z
+counted (refused k) m l e = let z : false ≡ true = cc in impossible z
+
+-- and one with a number with a file that is refused by it
+pub refused-is : (a : Answer) {k : ℕ} → readingOf a .verdict ≡ Refused k → a ≡ refused k
+unfolding readingOf
+refused-is (accepted j) e = let z : false ≡ true = cc in impossible z
+refused-is (refused n) e = cc
 
 -- the arrays of a reading r of an accepted job j
 pub record Arrays (r : Reading) (j : Job) : Type 0 where

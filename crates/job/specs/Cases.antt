@@ -5,7 +5,7 @@ use mathlib.Core.List.{List, [], _∷_, _++_, flatMap}
 use Prim.Native.Nat.{ℕ}
 use lib.Dec.{eqb}
 use lib.ListN.{replicate}
-use Rattle.job.specs.Number.{number}
+use Rattle.base.specs.Number.{number}
 use Rattle.job.specs.Job.{blank}
 use Rattle.job.specs.Record.{kindOf, bodyLength, platformIn, durationIn, edgeIn, noRack, stands, full, platformInRange, durationInRange, countInRange, inRange, joins, endsRight, rises, aboveLast, inOrder, added}
 use Rattle.job.specs.Read.{Answer, accepted, refused, after, judged, records, readJob}

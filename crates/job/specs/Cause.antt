@@ -20,7 +20,7 @@ pub data Cause (rest : List ℕ) (j : Job) : Option Kind → ℕ → Type 0 wher
   bytes-after : empty rest ≡ false → Cause rest j (some end) 8
 
 -- a record of kind k without trouble, with `rest` after its kind byte, after the job so far
-pub record Fits (rest : List ℕ) (j : Job) (k : Kind) : Type 0 where
+pub record Untroubled (rest : List ℕ) (j : Job) (k : Kind) : Type 0 where
   pub placed : stands j k ≡ true
   pub room : full j k ≡ false
   pub whole : bodyLength k ≤ length rest
@@ -32,4 +32,4 @@ pub record Fits (rest : List ℕ) (j : Job) (k : Kind) : Type 0 where
 pub data Reached (file : List ℕ) : ℕ → Job → Type 0 where
   start : Reached file 0 blank
   next : {at : ℕ} {j : Job} (k : Kind) → Reached file at j → at < length file → kindOf (getD file at 0) ≡ some k → 1 ≤ bodyLength k →
-      Fits (drop (suc at) file) j k → Reached file (suc at + bodyLength k) (added j k (drop (suc at) file))
+      Untroubled (drop (suc at) file) j k → Reached file (suc at + bodyLength k) (added j k (drop (suc at) file))

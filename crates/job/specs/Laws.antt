@@ -1,10 +1,9 @@
 -- What follows from the definitions and serves the proofs; a reader of the contracts needs none of it.
-pub mod Number
 pub mod Judged
 pub mod Kinds
 pub mod Spare
-pub mod Values
-pub mod Stored
+pub mod Columns
+pub mod Sizes
 pub mod Tests
 pub mod Turn
 pub mod Lists

@@ -1,4 +1,3 @@
-pub mod Number
 pub mod Job
 pub mod Record
 pub mod Read

@@ -8,14 +8,15 @@ use lib.Dec.{leb, ltb, eqb}
 use lib.ListN.{length, getD, take, drop, replicate}
 use mir.Syntax.{w8, w16, w32}
 use mir.Val.{Fits}
+use Rattle.base.specs.Choice.{pick}
+use Rattle.base.specs.Lists.{values}
 use Rattle.job.specs.declared.Platform.{Platform}
 use Rattle.job.specs.declared.parse.Pass.{Pass}
 use Rattle.job.specs.declared.parse.Pass.the-variants.{Count, Trouble}
-use Rattle.job.specs.Number.{pick}
 use Rattle.job.specs.Job.{Edge, Job}
 use Rattle.job.specs.Record.{platformInRange, durationInRange, countInRange, joins}
 use Rattle.job.specs.Read.{accepted, refused, records, readJob}
-use Rattle.job.specs.Write.{values, edgeHeld, fileOf}
+use Rattle.job.specs.Write.{edgeHeld, fileOf}
 
 abbrev pub jobOf : Platform → List ℕ → List Edge → Job
 jobOf p ts es = record { platform = p; tasks = ts; edges = es }

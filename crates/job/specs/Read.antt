@@ -5,9 +5,10 @@ use mathlib.Core.Option.{Option, none, some}
 use Prim.Native.Nat.{ℕ, zero, suc, _-_}
 use lib.Dec.{ltb}
 use lib.ListN.{length, replicate}
+use Rattle.job.specs.declared.Verdict.{Verdict}
 use Rattle.job.specs.declared.Verdict.the-variants.{Counts, Refused}
+use Rattle.base.specs.Choice.{pick}
 use Rattle.job.specs.declared.Reading.{Reading}
-use Rattle.job.specs.Number.{pick}
 use Rattle.job.specs.Job.{Edge, Job, blank}
 use Rattle.job.specs.Record.{Kind, rack, step, link, end, kindOf, bodyLength, empty, stands, full, inRange, endsRight, inOrder, added}
 
@@ -44,6 +45,11 @@ records (b ∷ rest) zero j = judged (kindOf b) rest j (records rest)
 -- the answer to a file
 unfoldable pub readJob : List ℕ → Answer
 readJob file = records file 0 blank
+
+-- the number of a refused file; 0 for an accepted one
+abbrev pub verdictNumber : Verdict → ℕ
+verdictNumber (Counts m l) = 0
+verdictNumber (Refused k) = k
 
 -- an array of n places that begins with xs (01: "spare places of its arrays read as 0")
 unfoldable pub padded : ℕ → List ℕ → List ℕ

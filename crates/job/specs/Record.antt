@@ -7,8 +7,9 @@ use mathlib.Core.Option.{Option, none, some}
 use Prim.Native.Nat.{ℕ}
 use lib.Dec.{leb, ltb, eqb}
 use lib.ListN.{length, getD, take, drop}
+use Rattle.base.specs.Choice.{pick}
+use Rattle.base.specs.Number.{number}
 use Rattle.job.specs.declared.Platform.{Platform}
-use Rattle.job.specs.Number.{pick, number}
 use Rattle.job.specs.Job.{Edge, Job}
 
 -- 01: "kind | name"

@@ -4,6 +4,8 @@ use mathlib.Core.List.{List, _++_}
 use Prim.Native.Nat.{ℕ, _≤_, _<_, _^_}
 use native.Mathlib.Omega.{arith}
 use lib.ListN.{length, getD, take, drop}
+use Rattle.base.specs.Number.{Bytes}
+use Rattle.base.specs.Laws.Values.{length-values, each-value, values-back}
 use Rattle.job.specs.declared.Platform.{Platform}
 use Rattle.job.specs.declared.Written.the-variants.{Length}
 use Rattle.job.specs.Job.{Job}
@@ -11,10 +13,9 @@ use Rattle.job.specs.Read.{accepted, readJob, padded, readingOf}
 use Rattle.job.specs.Write.{fileOf, fileLength, edgeHeld, heldJob, Held, writeAnswer, writeOut}
 use Rattle.job.specs.Accepted.{Accepted, accepted-job}
 use Rattle.job.specs.Pass.{edge}
-use Rattle.job.specs.Laws.Number.{Bytes}
 use Rattle.job.specs.Laws.Written.{file-size, read-back}
 use Rattle.job.specs.Laws.Lists.{padded-at}
-use Rattle.job.specs.Laws.Values.{length-values, each-value, values-back, edges-held}
+use Rattle.job.specs.Laws.Columns.{edges-held}
 use Rattle.job.specs.Laws.Rewritten.{written-back, file-bound}
 use Rattle.job.specs.Laws.Prefix.{first-bytes}
 

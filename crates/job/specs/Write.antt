@@ -2,13 +2,15 @@
 use mathlib.Core.Bool.{_||_}
 use mathlib.Core.Path.{_≡_}
 use mathlib.Core.List.{List, [], _∷_, _++_, flatMap}
-use Prim.Native.Nat.{ℕ, zero, suc, _+_, _*_, _^_, _<_}
+use Prim.Native.Nat.{ℕ, _+_, _*_, _^_, _<_}
 use lib.Dec.{ltb}
 use lib.ListN.{length, getD, drop}
+use Rattle.base.specs.Lists.{values}
+use Rattle.base.specs.Choice.{pick}
+use Rattle.base.specs.Number.{bytes}
 use Rattle.job.specs.declared.Platform.{Platform}
 use Rattle.job.specs.declared.Written.{Written}
 use Rattle.job.specs.declared.Written.the-variants.{Length, Refused}
-use Rattle.job.specs.Number.{pick, bytes}
 use Rattle.job.specs.Job.{Edge, Job}
 use Rattle.job.specs.Read.{Answer, accepted, refused, readJob}
 
@@ -31,11 +33,6 @@ fileOf j = rackBytes (j .platform) ++ (flatMap stepBytes (j .tasks) ++ (flatMap 
 -- 01: "5 + 5 times (m + links) bytes"
 unfoldable pub fileLength : ℕ → ℕ → ℕ
 fileLength m l = 5 + 5 * (m + l)
-
--- f i, f (i + 1), ..: k values
-unfoldable pub values : {A : Type 0} → (ℕ → A) → ℕ → ℕ → List A
-values f i zero = []
-values f i (suc k) = f i ∷ values f (suc i) k
 
 -- the edge whose parts stand at place i of three arrays
 unfoldable pub edgeHeld : List ℕ → List ℕ → List ℕ → ℕ → Edge

@@ -6,7 +6,8 @@ ghost use Prim.Native.Nat.{_+_, _*_, _≤_, _<_};
 ghost use mathlib.Core.List.{flatMap};
 ghost use lib.ListN.{length, getD};
 ghost use lib.Seq.{sets};
-ghost use Rattle.job.specs.Write.{values, edgeHeld, heldJob, rackBytes, stepBytes, linkBytes, fileOf};
+ghost use Rattle.base.specs.Lists.{values};
+ghost use Rattle.job.specs.Write.{edgeHeld, heldJob, rackBytes, stepBytes, linkBytes, fileOf};
 ghost use Rattle.job.specs.Pass.{edge, StepsJudged, LinksJudged, JobJudged};
 
 // The first trouble among the first `tasks` durations, or 0 for none.

@@ -4,7 +4,7 @@ mod parse;
 mod record;
 
 ghost use mathlib.Core.Path.{_≡_};
-ghost use Rattle.job.specs.Read.{refused, readJob, readingOf};
+ghost use Rattle.job.specs.Read.{refused, readJob, verdictNumber, readingOf};
 ghost use Rattle.job.specs.Write.{heldJob, WrittenAs};
 use parse::Pass;
 
@@ -35,6 +35,16 @@ pub struct Reading {
 pub enum Written {
     Length(usize),
     Refused(u8),
+}
+
+// The number of a refused file; 0 for an accepted one.
+pub fn number(verdict: Verdict) -> u8
+    ensures { λ r. ⌜ r ≡ verdictNumber verdict ⌝ }
+{
+    match verdict {
+        Verdict::Counts { tasks: _, edges: _ } => 0,
+        Verdict::Refused(number) => number,
+    }
 }
 
 fn refusal(number: u8) -> Reading

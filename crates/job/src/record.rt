@@ -2,21 +2,15 @@
 ghost use mathlib.Core.Path.{_≡_};
 ghost use Prim.Native.Nat.{_+_, _*_, _≤_, _<_};
 ghost use lib.ListN.{length, take, drop};
-ghost use Rattle.job.specs.Number.{number};
+ghost use Rattle.base.specs.Number.{number};
 ghost use Rattle.job.specs.Pass.{edge, key, platformTrouble, stepTrouble, linkTrouble};
-
-fn wide(x: u8) -> u32
-    ensures { λ r. ⌜ (r ≡ x) × (r < 256) ⌝ }
-{
-    x as u32
-}
 
 // The number in the 2 bytes at `at`.
 pub fn number2(file: &[u8], at: usize) -> u16
     requires { ⌜ at + 2 ≤ length (now file) ⌝ }
     ensures { λ r. ⌜ r ≡ number (take 2 (drop at (now (file .entry)))) ⌝ }
 {
-    (wide(file[at]) + 256 * wide(file[at + 1])) as u16
+    base::number2(file[at], file[at + 1])
 }
 
 // The number in the 4 bytes at `at`.
@@ -24,9 +18,7 @@ pub fn number4(file: &[u8], at: usize) -> u32
     requires { ⌜ at + 4 ≤ length (now file) ⌝ }
     ensures { λ r. ⌜ r ≡ number (take 4 (drop at (now (file .entry)))) ⌝ }
 {
-    let low = wide(file[at]) + 256 * wide(file[at + 1]);
-    let high = wide(file[at + 2]) + 256 * wide(file[at + 3]);
-    low + 65536 * high
+    base::number4(file[at], file[at + 1], file[at + 2], file[at + 3])
 }
 
 pub fn platform_trouble(processors: u8, topology: u8, unit: u8) -> u8
@@ -63,7 +55,7 @@ pub fn step_trouble(duration: u32) -> u8
 pub fn key(from: u8, to: u8) -> u32
     ensures { λ r. ⌜ (r ≡ 256 * from + to) × (r < 65536) ⌝ }
 {
-    256 * wide(from) + wide(to)
+    256 * base::wide8(from) + base::wide8(to)
 }
 
 // `least` is the least key above the link before.

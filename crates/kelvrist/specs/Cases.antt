@@ -4,11 +4,11 @@ use mathlib.Core.Path.{_≡_, refl}
 use mathlib.Core.List.{List, [], _∷_, _++_, flatMap}
 use Prim.Native.Nat.{ℕ}
 use lib.ListN.{replicate}
-use Rattle.job.specs.Number.{number, bytes}
+use Rattle.base.specs.Number.{number, bytes}
+use Rattle.base.specs.Lists.{upto, any, all, filter, greatest, keep, best}
 use Rattle.job.specs.Job.{blank}
 use Rattle.job.specs.Record.{kindOf, bodyLength, platformIn, durationIn, edgeIn, noRack, stands, full, platformInRange, durationInRange, countInRange, inRange, joins, endsRight, rises, aboveLast, inOrder, added}
 use Rattle.job.specs.Read.{after, judged, records, readJob}
-use Rattle.etf.specs.Lists.{upto, any, all, filter, greatest, keep, best}
 use Rattle.etf.specs.Instance.{duration, into, messageTime}
 use Rattle.etf.specs.Schedule.{placed, placementOf, messageTimeTo, arrival, end, scheduleOf}
 use Rattle.etf.specs.Topology.{hops, cost}

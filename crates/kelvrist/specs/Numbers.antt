@@ -1,28 +1,27 @@
 -- The calls from C over the calls on slices: the numbers that the answers stand for, and the plan as bytes.
-use mathlib.Core.Logic.{_⊎_, inl, inr}
 use mathlib.Core.Option.{Option, none, some}
 use mathlib.Core.Path.{_≡_, refl, ap, sym, _∙_}
 use mathlib.Core.List.{List, _++_}
-use Prim.Native.Nat.{ℕ, _*_, _/_, _≤_, _<_, min}
+use Prim.Native.Nat.{ℕ, _*_, _≤_, _<_}
 use native.Mathlib.Omega.{arith}
 use borrow.Author.Tests.{lt-ltb, le-ltb}
 use lib.Dec.{ltb}
 use lib.ListN.{length, getD, drop}
-use Rattle.job.specs.Number.{pick}
+use Rattle.base.specs.Choice.{pick}
+use Rattle.base.specs.Slices.{filled}
+use Rattle.base.specs.Laws.Filled.{filled-at}
 use Rattle.job.specs.Job.{Job}
 use Rattle.job.specs.Read.{Answer, accepted, refused, readJob}
 use Rattle.job.specs.Accepted.{accepted-job}
 use Rattle.etf.specs.Instance.{tasks}
 use Rattle.etf.specs.OfJob.{instance}
 use Rattle.etf.specs.Laws.OfJob.{few}
-use Rattle.etf.specs.Laws.Tests.{le-or-lt}
 use Rattle.schedule.specs.declared.Planned.{Planned}
 use Rattle.schedule.specs.declared.Planned.the-variants.{Plan, Refused}
 use Rattle.schedule.specs.declared.Checked.{Checked}
 use Rattle.schedule.specs.declared.Checked.the-variants.{Yes, Refused as NotChecked}
-use Rattle.schedule.specs.Plan.{PlanCall, filled, startOf, processorOf, planAccepted, planFor, planCall}
+use Rattle.schedule.specs.Plan.{PlanCall, startOf, processorOf, planAccepted, planFor, planCall}
 use Rattle.schedule.specs.Check.{checkOf, checkedAs, numberOf, checkFor, checkCall}
-use Rattle.schedule.specs.Laws.Filled.{filled-at}
 use Rattle.schedule.specs.Laws.Answer.{check-of-same}
 use Rattle.kelvrist.specs.PlanBytes.{BytesCall, returned, planBytes, processorIn, startIn, planBytesFor, planBytesCall, checkBytesFor, checkBytesCall}
 use Rattle.kelvrist.specs.Laws.Encoded.{plan-bytes-same}
@@ -36,10 +35,6 @@ planNumber (Refused k) = k
 abbrev pub checkNumber : Checked → ℕ
 checkNumber Yes = 0
 checkNumber (NotChecked k) = k
-
--- of a job's tasks, 256 at most, as many as n bytes of a plan hold whole
-unfoldable pub wholeTasks : ℕ → ℕ
-wholeTasks n = min 256 (n / 5)
 
 -- the planner's answer with its starts and processors, as a call from C that is lent these bytes for the plan
 abbrev answerInBytes : Planned → List ℕ → List ℕ → List ℕ → BytesCall
@@ -57,55 +52,51 @@ unfolding numberOf checkedAs
 same-number none = refl
 same-number (some k) = refl
 
--- where the slices have places for the tasks that the plan's bytes hold, the planner from C is the planner
-pub plan-in-bytes : (file plan starts processors scratch : List ℕ)
-    → wholeTasks (length plan) ≤ length starts → wholeTasks (length plan) ≤ length processors → 4096 ≤ length scratch
+-- over slices with places for 256 tasks the planner from C is the planner
+pub plan-in-bytes : (file plan starts processors scratch : List ℕ) → 256 ≤ length starts → 256 ≤ length processors → 4096 ≤ length scratch
     → planBytesCall file plan ≡ inBytes (planCall file starts processors scratch) plan
-unfolding planBytesCall planCall planBytesFor planFor planAccepted wholeTasks
+unfolding planBytesCall planCall planBytesFor planFor planAccepted
 plan-in-bytes file plan starts processors scratch a b c = go (readJob file) refl
   where
-    held : (j : Job) → tasks (instance j) ≤ 256
-        → (tasks (instance j) ≤ length starts) ⊎ (length starts < tasks (instance j))
-        → (tasks (instance j) ≤ length processors) ⊎ (length processors < tasks (instance j))
-        → planBytesFor (accepted j) plan ≡ inBytes (planFor (accepted j) starts processors scratch) plan
-    held j f (inl s) (inl p) =
+    held : (j : Job) → tasks (instance j) ≤ 256 → planBytesFor (accepted j) plan ≡ inBytes (planFor (accepted j) starts processors scratch) plan
+    held j few =
         let I = instance j in
         let same = plan-bytes-same (tasks I) (λ T. getD (filled (processorOf I) (tasks I) processors) T 0) (processorOf I)
         (λ T. getD (filled (startOf I) (tasks I) starts) T 0) (startOf I)
         (filled-at (processorOf I) (tasks I) processors) (filled-at (startOf I) (tasks I) starts) in
-        simp (le-ltb (length starts) (tasks I) s, le-ltb (length processors) (tasks I) p, le-ltb (length scratch) 4096 c)
+        simp (
+          le-ltb (length starts) (tasks I) (omega arith),
+          le-ltb (length processors) (tasks I) (omega arith),
+          le-ltb (length scratch) 4096 c,
+        )
         (ap (λ (l : List ℕ). pick (ltb (length plan) (5 * tasks I)) (returned 9 plan) (returned 0 (l ++ drop (5 * tasks I) plan))) (sym same))
-    held j f (inl s) (inr p) =
-        simp (lt-ltb (length plan) (5 * tasks (instance j)) (omega arith), le-ltb (length starts) (tasks (instance j)) s, lt-ltb (length processors) (tasks (instance j)) p)
-    held j f (inr s) p = simp (lt-ltb (length plan) (5 * tasks (instance j)) (omega arith), lt-ltb (length starts) (tasks (instance j)) s)
 
     go : (x : Answer) → readJob file ≡ x → planBytesFor x plan ≡ inBytes (planFor x starts processors scratch) plan
-    go (accepted j) e =
-        let m = tasks (instance j) in
-        held j (few j (accepted-job file j e)) (le-or-lt m (length starts)) (le-or-lt m (length processors))
+    go (accepted j) e = held j (few j (accepted-job file j e))
     go (refused k) e = refl
 
--- where they have so many places and hold the plan's tasks, the checker from C returns the checker's number
-pub check-number : (file plan starts processors : List ℕ) → length starts ≡ wholeTasks (length plan) → length processors ≡ wholeTasks (length plan)
-    → ((T : ℕ) → T < wholeTasks (length plan) → (getD starts T 0 ≡ startIn plan T) × (getD processors T 0 ≡ processorIn plan T))
-    → checkBytesCall file plan ≡ checkNumber (checkCall file starts processors)
-unfolding checkBytesCall checkCall checkBytesFor checkFor wholeTasks
-check-number file plan starts processors p q same = go (readJob file) refl
-  where
-    held : (j : Job) → tasks (instance j) ≤ 256 → (tasks (instance j) ≤ length starts) ⊎ (length starts < tasks (instance j))
-        → checkBytesFor (accepted j) plan ≡ checkNumber (checkFor (accepted j) starts processors)
-    held j f (inl h) =
-        simp (
-          le-ltb (length plan) (5 * tasks (instance j)) (omega arith),
-          le-ltb (length starts) (tasks (instance j)) h,
-          le-ltb (length processors) (tasks (instance j)) (omega arith),
-        )
-        (ap numberOf
-        (sym (check-of-same (instance j) (λ T. getD processors T 0) (processorIn plan) (λ T. getD starts T 0) (startIn plan)
-        (λ T k. same T (omega arith) .1) (λ T k. same T (omega arith) .0)))
-        ∙ same-number (checkOf (instance j) (λ T. getD processors T 0) (λ T. getD starts T 0)))
-    held j f (inr h) = simp (lt-ltb (length plan) (5 * tasks (instance j)) (omega arith), lt-ltb (length starts) (tasks (instance j)) h)
+-- the checker from C: a refused file's own number, ..
+pub check-passes-on : (file plan : List ℕ) (k : ℕ) → readJob file ≡ refused k → checkBytesCall file plan ≡ k
+unfolding checkBytesCall checkBytesFor
+check-passes-on file plan k e = rw e
 
-    go : (a : Answer) → readJob file ≡ a → checkBytesFor a plan ≡ checkNumber (checkFor a starts processors)
-    go (accepted j) e = held j (few j (accepted-job file j e)) (le-or-lt (tasks (instance j)) (length starts))
-    go (refused k) e = refl
+module _ (file plan : List ℕ) (j : Job) (e : readJob file ≡ accepted j) where
+  -- .. 9 for a plan too short for the job, ..
+  pub check-short : length plan < 5 * tasks (instance j) → checkBytesCall file plan ≡ 9
+  unfolding checkBytesCall checkBytesFor
+  check-short h = rw e (simp (lt-ltb (length plan) (5 * tasks (instance j)) h))
+
+  -- .. else the checker's number for slices that hold the plan's tasks
+  pub check-number : (starts processors : List ℕ) → 5 * tasks (instance j) ≤ length plan → tasks (instance j) ≤ length starts
+      → tasks (instance j) ≤ length processors
+      → ((T : ℕ) → T < tasks (instance j) → (getD starts T 0 ≡ startIn plan T) × (getD processors T 0 ≡ processorIn plan T))
+      → checkBytesCall file plan ≡ checkNumber (checkCall file starts processors)
+  unfolding checkBytesCall checkCall checkBytesFor checkFor
+  check-number starts processors h s p same =
+      let I = instance j in
+      rw e
+      (simp (le-ltb (length plan) (5 * tasks I) h, le-ltb (length starts) (tasks I) s, le-ltb (length processors) (tasks I) p)
+      (ap numberOf
+      (sym (check-of-same I (λ T. getD processors T 0) (processorIn plan) (λ T. getD starts T 0) (startIn plan)
+      (λ T k. same T k .1) (λ T k. same T k .0)))
+      ∙ same-number (checkOf I (λ T. getD processors T 0) (λ T. getD starts T 0))))

@@ -3,9 +3,10 @@ use mathlib.Core.List.{List, _∷_, _++_, flatMap}
 use Prim.Native.Nat.{ℕ, _+_, _*_}
 use lib.Dec.{ltb}
 use lib.ListN.{length, getD, take, drop}
-use Rattle.job.specs.Number.{pick, number, bytes}
+use Rattle.base.specs.Choice.{pick}
+use Rattle.base.specs.Number.{number, bytes}
+use Rattle.base.specs.Lists.{upto}
 use Rattle.job.specs.Read.{Answer, accepted, refused, readJob}
-use Rattle.etf.specs.Lists.{upto}
 use Rattle.etf.specs.Instance.{tasks}
 use Rattle.etf.specs.OfJob.{instance}
 use Rattle.schedule.specs.Plan.{startOf, processorOf}

@@ -1,11 +1,9 @@
 // A plan as bytes: 5 a task, its processor and then its start, little-endian.
-use crate::number;
 ghost use mathlib.Core.Path.{_≡_};
 ghost use mathlib.Core.List.{_++_};
 ghost use Prim.Native.Nat.{ℕ, _+_, _*_, _≤_, _<_};
 ghost use lib.ListN.{length, getD, take, drop};
 ghost use lib.Seq.{sets};
-ghost use Rattle.job.specs.Number.{number as numberIn};
 ghost use Rattle.kelvrist.specs.PlanBytes.{taskBytes, planBytes, processorIn, startIn};
 
 // Writes the five bytes of one task.
@@ -32,16 +30,6 @@ pub fn put(tasks: usize, starts: &[u32], processors: &[u8], plan: &mut [u8])
     }
 }
 
-// The number in the 4 bytes at `at`.
-fn number4(plan: &[u8], at: usize) -> u32
-    requires { ⌜ at + 4 ≤ length (now plan) ⌝ }
-    ensures { λ r. ⌜ r ≡ numberIn (take 4 (drop at (now (plan .entry)))) ⌝ }
-{
-    let low = number::wide8(plan[at]) + 256 * number::wide8(plan[at + 1]);
-    let high = number::wide8(plan[at + 2]) + 256 * number::wide8(plan[at + 3]);
-    low + 65536 * high
-}
-
 // Reads the first `tasks` tasks.
 pub fn get(tasks: usize, plan: &[u8], starts: &mut [u32], processors: &mut [u8])
     requires { ⌜ (tasks ≤ length (now starts)) × (tasks ≤ length (now processors)) × (5 * tasks ≤ length (now plan)) ⌝ }
@@ -49,8 +37,9 @@ pub fn get(tasks: usize, plan: &[u8], starts: &mut [u32], processors: &mut [u8])
 {
     let mut t: usize = 0;
     while t < tasks {
-        starts[t] = number4(plan, 5 * t + 1);
-        processors[t] = plan[5 * t];
+        let at = 5 * t;
+        processors[t] = plan[at];
+        starts[t] = base::number4(plan[at + 1], plan[at + 2], plan[at + 3], plan[at + 4]);
         t += 1;
     }
 }

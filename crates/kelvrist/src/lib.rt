@@ -1,12 +1,12 @@
 // The planner and the checker for C, on job bytes and plan bytes (document 01).
 mod encoding;
-mod number;
 
+use job::Verdict;
 use schedule::Checked;
 use schedule::Planned;
 ghost use mathlib.Core.Path.{_≡_};
 ghost use Rattle.kelvrist.specs.PlanBytes.{returned, planBytesCall, checkBytesCall};
-ghost use Rattle.kelvrist.specs.Numbers.{planNumber, checkNumber, wholeTasks};
+ghost use Rattle.kelvrist.specs.Numbers.{planNumber, checkNumber};
 
 // 0 for a plan, or the refusal's number.
 fn plan_number(planned: Planned) -> u32
@@ -14,7 +14,7 @@ fn plan_number(planned: Planned) -> u32
 {
     match planned {
         Planned::Plan { tasks: _, end: _ } => 0,
-        Planned::Refused(number) => number::wide8(number),
+        Planned::Refused(number) => base::wide8(number),
     }
 }
 
@@ -24,18 +24,8 @@ fn check_number(checked: Checked) -> u32
 {
     match checked {
         Checked::Yes => 0,
-        Checked::Refused(number) => number::wide8(number),
+        Checked::Refused(number) => base::wide8(number),
     }
-}
-
-// Of a job's tasks, 256 at most, as many as the bytes of a plan hold whole.
-fn whole_tasks(bytes: usize) -> usize
-    ensures { λ r. ⌜ r ≡ wholeTasks bytes ⌝ }
-{
-    if 1280 <= bytes {
-        return 256;
-    }
-    bytes / 5
 }
 
 // Plans the job of `job` into 5 bytes a task of `plan`: 0, or the refusal's number.
@@ -57,15 +47,23 @@ pub extern "C" fn kelvrist_plan(job: &[u8], plan: &mut [u8]) -> u32
     0
 }
 
-// Judges 5 bytes a task of `plan` for the job of `job`: 0 for a yes, or the refusal's number.
+// Judges 5 bytes a task of `plan` for the job of `job`: 0 for a yes, or the refusal's number. No byte past 5m is read.
 #[no_mangle]
 pub extern "C" fn kelvrist_check(job: &[u8], plan: &[u8]) -> u32
     ensures { λ r. ⌜ r ≡ checkBytesCall (now (job .entry)) (now (plan .entry)) ⌝ }
 {
+    let r = job::read(job);
+    let verdict = r.verdict;
+    let Verdict::Counts { tasks, edges: _ } = verdict else {
+        return base::wide8(job::number(verdict));
+    };
+    let bytes = 5 * tasks;
+    if plan.len() < bytes {
+        return 9;
+    }
     let mut starts = [0u32; 256];
     let mut processors = [0u8; 256];
-    let tasks = whole_tasks(plan.len());
     encoding::get(tasks, plan, &mut starts, &mut processors);
-    let checked = schedule::check(job, &starts[..tasks], &processors[..tasks]);
+    let checked = schedule::check(job, &starts, &processors);
     check_number(checked)
 }

@@ -3,11 +3,11 @@ use mathlib.Core.Option.{orElse, bind}
 use mathlib.Core.Path.{_≡_, refl}
 use mathlib.Core.List.{List, [], _∷_, flatMap}
 use Prim.Native.Nat.{ℕ}
-use Rattle.job.specs.Number.{number}
+use Rattle.base.specs.Number.{number}
+use Rattle.base.specs.Lists.{upto, any, all, filter, greatest, keep, best}
 use Rattle.job.specs.Job.{blank}
 use Rattle.job.specs.Record.{kindOf, bodyLength, platformIn, durationIn, edgeIn, noRack, stands, full, platformInRange, durationInRange, countInRange, inRange, joins, endsRight, rises, aboveLast, inOrder, added}
 use Rattle.job.specs.Read.{after, judged, records, readJob}
-use Rattle.etf.specs.Lists.{upto, any, all, filter, greatest, keep, best}
 use Rattle.etf.specs.Instance.{duration, into, messageTime}
 use Rattle.etf.specs.Schedule.{placed, placementOf, messageTimeTo, arrival, end}
 use Rattle.etf.specs.Topology.{hops, cost}
@@ -16,7 +16,7 @@ use Rattle.etf.specs.Cover.{running, busy, idle, someIdle, latestIdleTick, lowe
 use Rattle.etf.specs.Dearest.{greatestCost, dearestTo, dearest}
 use Rattle.etf.specs.OfJob.{instance}
 use Rattle.schedule.specs.Plan.{startOf, processorOf}
-use Rattle.listing.specs.Listing.{text, digits, decimal, field, line, header, taskLine, taskLines, figures, planListing, listingFor, listing}
+use Rattle.listing.specs.Listing.{text, digits, decimal, field, line, header, taskLine, taskLines, figures, planListing, refusalLine, listingFor, listing}
 
 -- 01: "For bytes 01 02 00 02, .." to "04"
 abbrev file-a : List ℕ
@@ -25,7 +25,7 @@ file-a =
 
 -- "it prints" the seven lines; and nothing but its number for the file that ends too early
 pub printed : (listing file-a ≡ text "plan 2 3 2\n0 0 0 4\n1 1 0 3\n2 1 6 8\nend 8\ncover 6\ndearest 6\n") × (listing (1 ∷ 2 ∷ 0 ∷ []) ≡ text "refused 1\n")
-unfolding listing listingFor planListing figures taskLines taskLine header line field decimal digits text startOf processorOf number readJob blank records judged after kindOf bodyLength stands noRack full inRange platformInRange durationInRange countInRange endsRight joins inOrder aboveLast rises added platformIn durationIn edgeIn flatMap upto any all filter greatest keep best duration into messageTime placed placementOf messageTimeTo arrival end hops cost atMost move settle nextMoment free finished ready pair pairs choice complete round run planned running busy idle someIdle latestIdleTick lowestIdle later latestInto back walk lastTask cover greatestCost dearestTo dearest instance orElse bind
+unfolding listing listingFor refusalLine planListing figures taskLines taskLine header line field decimal digits text startOf processorOf number readJob blank records judged after kindOf bodyLength stands noRack full inRange platformInRange durationInRange countInRange endsRight joins inOrder aboveLast rises added platformIn durationIn edgeIn flatMap upto any all filter greatest keep best duration into messageTime placed placementOf messageTimeTo arrival end hops cost atMost move settle nextMoment free finished ready pair pairs choice complete round run planned running busy idle someIdle latestIdleTick lowestIdle later latestInto back walk lastTask cover greatestCost dearestTo dearest instance orElse bind
 printed = (refl, refl)
 
 -- the digits of the least and the greatest number of 32 bits

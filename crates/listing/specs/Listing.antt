@@ -5,9 +5,9 @@ use Prim.Native.Char.{code}
 use Prim.Native.String.{String, [] as []ᵗ, _∷_ as _∷ᵗ_}
 use lib.Dec.{ltb}
 use lib.ListN.{length, drop}
-use Rattle.job.specs.Number.{pick}
+use Rattle.base.specs.Choice.{pick}
+use Rattle.base.specs.Lists.{upto}
 use Rattle.job.specs.Read.{Answer, accepted, refused, readJob}
-use Rattle.etf.specs.Lists.{upto}
 use Rattle.etf.specs.Instance.{Instance, tasks, duration}
 use Rattle.etf.specs.Schedule.{end}
 use Rattle.etf.specs.Rule.{planned}
@@ -69,23 +69,31 @@ planListing I =
     ++ (taskLines (tasks I) (processorOf I) (startOf I) (duration I) ++ figures (end I (planned I)) (cover I) (dearest I))
 
 -- 01: "A refusal prints one line, `refused`, a space and its number, nothing else"
+unfoldable pub refusalLine : ℕ → List ℕ
+refusalLine k = line (text "refused ") k
+
+-- what is printed for the reader's answer
 unfoldable pub listingFor : Answer → List ℕ
 listingFor (accepted j) = planListing (instance j)
-listingFor (refused k) = line (text "refused ") k
+listingFor (refused k) = refusalLine k
 
 -- what the program prints for a file
 unfoldable pub listing : List ℕ → List ℕ
 listing file = listingFor (readJob file)
 
--- what a call returns, the length of the text, and the last content of the buffer
+-- what a call returns, the number of bytes written, and the last content of the buffer
 pub record ListingCall : Type 0 where
-  pub length : ℕ
+  pub written : ℕ
   pub buffer : List ℕ
 
 -- a call that returns n and leaves these bytes in the buffer
 abbrev pub listed : ℕ → List ℕ → ListingCall
-listed n buffer = record { length = n; buffer = buffer }
+listed n buffer = record { written = n; buffer = buffer }
 
--- the call for a file: the text is put at the front of the buffer, and the rest of it keeps its content
+-- a call that puts these bytes at the front of the buffer: the rest of it keeps its content
+unfoldable pub putFirst : List ℕ → List ℕ → ListingCall
+putFirst bytes buffer = listed (length bytes) (bytes ++ drop (length bytes) buffer)
+
+-- the call for a file
 unfoldable pub listingCall : List ℕ → List ℕ → ListingCall
-listingCall file buffer = listed (length (listing file)) (listing file ++ drop (length (listing file)) buffer)
+listingCall file buffer = putFirst (listing file) buffer

@@ -4,8 +4,9 @@ use mathlib.Core.List.{List}
 use Prim.Native.Nat.{ℕ, _^_, _≤_, _<_}
 use native.Mathlib.Omega.{arith}
 use lib.ListN.{length, take, drop, length-append}
+use Rattle.job.specs.Read.{refused, readJob}
 use Rattle.job.specs.RoundTrip.{settled}
-use Rattle.listing.specs.Listing.{decimal, listingFor, listing, ListingCall, listed, listingCall}
+use Rattle.listing.specs.Listing.{decimal, refusalLine, listingFor, listing, ListingCall, listed, putFirst, listingCall}
 use Rattle.listing.specs.Laws.Told.{told, told-digits}
 
 -- the digits of a number, read as one, are that number: no two numbers of 32 bits print the same
@@ -18,10 +19,15 @@ pub first-bytes : (file : List ℕ) → listing (take 6406 file) ≡ listing fil
 unfolding listing
 first-bytes file = ap listingFor (settled file)
 
+-- a refused file's text is the line of its number
+pub refused-text : (file out : List ℕ) (k : ℕ) → readJob file ≡ refused k → putFirst (refusalLine k) out ≡ listingCall file out
+unfolding listingCall listing listingFor
+refused-text file out k e = rw e
+
 -- the text stands in the buffer: its length is at most the buffer's
 pub text-within : (file out : List ℕ) {n : ℕ} {out′ : List ℕ} → listed n out′ ≡ listingCall file out → n ≤ length out′
-unfolding listingCall
+unfolding listingCall putFirst
 text-within file out e =
-    let size = ap (λ (c : ListingCall). c .length) e in
+    let size = ap (λ (c : ListingCall). c .written) e in
     let held = ap (λ (c : ListingCall). length (c .buffer)) e in
     omega (arith, size, held, length-append (listing file) (drop (length (listing file)) out))

@@ -1,5 +1,4 @@
 // The text that program `plan` prints for a job file (document 01, "Ticks worked out").
-mod number;
 mod put;
 
 use job::Verdict;
@@ -7,19 +6,11 @@ use schedule::Covered;
 ghost use mathlib.Core.Path.{_≡_};
 ghost use Prim.Native.Nat.{ℕ, _+_, _*_, _≤_, _<_, max};
 ghost use lib.ListN.{length, getD};
-ghost use Rattle.listing.specs.Listing.{header as headerOf, taskLine, taskLines, figures as figuresOf, listed, listingCall};
-ghost use Rattle.listing.specs.Pass.{Put, coverIn, dearestIn};
-ghost use Rattle.schedule.specs.Pass.{most, verdictNumber};
-
-// The number of a refused file.
-fn refusal(verdict: Verdict) -> u8
-    ensures { λ r. ⌜ r ≡ verdictNumber verdict ⌝ }
-{
-    match verdict {
-        Verdict::Counts { tasks: _, edges: _ } => 0,
-        Verdict::Refused(number) => number,
-    }
-}
+ghost use Rattle.base.specs.Rows.{most};
+ghost use Rattle.base.specs.Slices.{Put};
+ghost use Rattle.listing.specs.Listing.{header as headerOf, taskLine, taskLines, figures as figuresOf, refusalLine};
+ghost use Rattle.listing.specs.Listing.{listed, putFirst, listingCall};
+ghost use Rattle.listing.specs.Pass.{coverIn, dearestIn};
 
 // The cover.
 fn cover_in(covered: Covered) -> u32
@@ -48,7 +39,7 @@ fn header(out: &mut [u8], processors: u8, tasks: usize, edges: usize) -> usize
     ensures { λ r. ⌜ r ≤ 38 ⌝ }
 {
     let first = put::word(out, 0, b"plan ");
-    let second = put::field(out, first, number::wide8(processors), b' ');
+    let second = put::field(out, first, base::wide8(processors), b' ');
     let third = put::field(out, second, tasks as u32, b' ');
     put::field(out, third, edges as u32, b'\n')
 }
@@ -88,7 +79,7 @@ fn lines<'a>(
             out,
             place,
             t as u32,
-            number::wide8(processors[t]),
+            base::wide8(processors[t]),
             starts[t],
             finish,
         );
@@ -132,6 +123,14 @@ fn figures(out: &mut [u8], at: usize, end: u32, cover: u32, dearest: u32) -> usi
     put::line(out, third, b"dearest ", dearest)
 }
 
+// Writes the line of a refusal to the front of `out`, and answers its length (01: "A refusal prints one line").
+pub fn refusal(number: u8, out: &mut [u8; 12288]) -> usize
+    ensures { λ r. ⌜ listed r (now (out .exit)) ≡ putFirst (refusalLine number) (now (out .entry)) ⌝ }
+    ensures { λ r. ⌜ r ≤ 12288 ⌝ }
+{
+    put::line(out, 0, b"refused ", base::wide8(number))
+}
+
 // Writes the listing of a file's job to the front of `out`, and answers its length (01: what program `plan` prints).
 pub fn write(file: &[u8], out: &mut [u8; 12288]) -> usize
     ensures { λ r. ⌜ listed r (now (out .exit)) ≡ listingCall (now (file .entry)) (now (out .entry)) ⌝ }
@@ -140,7 +139,7 @@ pub fn write(file: &[u8], out: &mut [u8; 12288]) -> usize
     let r = job::read(file);
     let verdict = r.verdict;
     let Verdict::Counts { tasks, edges } = verdict else {
-        return put::line(out, 0, b"refused ", number::wide8(refusal(verdict)));
+        return refusal(job::number(verdict), out);
     };
     let mut starts = [0u32; 256];
     let mut processors = [0u8; 256];

@@ -2,8 +2,8 @@
 ghost use mathlib.Core.Path.{_≡_};
 ghost use Prim.Native.Nat.{_+_, _≤_, _<_};
 ghost use lib.ListN.{length, drop};
+ghost use Rattle.base.specs.Slices.{Put};
 ghost use Rattle.listing.specs.Listing.{decimal, field as fieldOf, line as lineOf};
-ghost use Rattle.listing.specs.Pass.{Put};
 
 // The bytes of a word.
 pub fn word(out: &mut [u8], at: usize, bytes: &[u8]) -> usize

@@ -1,10 +1,13 @@
 // Reads a job file from standard input and prints its plan (document 01, "Ticks worked out").
 //
 // The first 6,406 bytes settle what is printed (`first-bytes` in crates/listing/specs/Printed.antt): no more are read.
+use job::Verdict;
 use libc::STDIN_FILENO;
 use libc::STDOUT_FILENO;
+ghost use mathlib.Core.Path.{_≡_};
 ghost use Prim.Native.Nat.{_+_, _≤_};
 ghost use lib.ListN.{length};
+ghost use Rattle.listing.specs.Listing.{listed, listingCall};
 ghost use Rattle.plan.specs.Input.{count};
 
 // How many bytes came, 0 at the end of the input; or that the read failed.
@@ -42,6 +45,18 @@ fn read_all(input: &mut [u8]) -> Came
     Came::Bytes(at)
 }
 
+// Puts what is printed for a job file at the front of `out`, a refusal's line or the listing of its plan, and answers its length.
+fn answer(file: &[u8], out: &mut [u8; 12288]) -> usize
+    ensures { λ r. ⌜ listed r (now (out .exit)) ≡ listingCall (now (file .entry)) (now (out .entry)) ⌝ }
+{
+    let r = job::read(file);
+    let verdict = r.verdict;
+    let Verdict::Counts { tasks: _, edges: _ } = verdict else {
+        return listing::refusal(job::number(verdict), out);
+    };
+    listing::write(file, out)
+}
+
 fn main() {
     let mut input = [0u8; 6406];
     let came = read_all(&mut input);
@@ -50,7 +65,7 @@ fn main() {
         return;
     };
     let mut output = [0u8; 12288];
-    let length = listing::write(&input[..n], &mut output);
+    let length = answer(&input[..n], &mut output);
     let done = io::write_all(STDOUT_FILENO, &output[..length]);
     if !done {
         os::fail(b"plan: write");

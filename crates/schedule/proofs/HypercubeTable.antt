@@ -6,8 +6,8 @@ use Prim.Native.Nat.{ℕ, _+_, _*_, _/_, _%_, _<_}
 use native.Mathlib.Omega.{arith}
 use lib.Dec.{eqb, eqb→eq}
 use lib.ListN.{getD}
+use Rattle.base.specs.Lists.{upto, filter}
 use Rattle.etf.specs.Topology.{hypercubeHops}
-use Rattle.etf.specs.Lists.{upto, filter}
 use Rattle.schedule.proofs.Table.{at}
 
 -- the table of src/hypercube.rt

@@ -4,11 +4,12 @@ use mathlib.Core.Path.{_≡_, refl}
 use mathlib.Core.List.{List, [], _∷_, _++_, map, flatMap}
 use Prim.Native.Nat.{ℕ}
 use lib.ListN.{replicate}
-use Rattle.job.specs.Number.{number}
+use Rattle.base.specs.Number.{number}
+use Rattle.base.specs.Lists.{upto, any, all, filter, greatest, keep, best}
+use Rattle.base.specs.Slices.{filled}
 use Rattle.job.specs.Job.{Job, blank}
 use Rattle.job.specs.Record.{kindOf, bodyLength, platformIn, durationIn, edgeIn, noRack, stands, full, platformInRange, durationInRange, countInRange, inRange, joins, endsRight, rises, aboveLast, inOrder, added}
 use Rattle.job.specs.Read.{after, judged, records, readJob}
-use Rattle.etf.specs.Lists.{upto, any, all, filter, greatest, keep, best}
 use Rattle.etf.specs.Instance.{duration, into, messageTime}
 use Rattle.etf.specs.Schedule.{placed, placementOf, messageTimeTo, arrival, end, scheduleOf}
 use Rattle.etf.specs.Topology.{hops, cost}
@@ -20,7 +21,7 @@ use Rattle.etf.specs.OfJob.{instance}
 use Rattle.schedule.specs.declared.Planned.the-variants.{Plan, Refused}
 use Rattle.schedule.specs.declared.Covered.the-variants.{Cover, Refused as NotCovered}
 use Rattle.schedule.specs.declared.Checked.the-variants.{Yes, Refused as NotChecked}
-use Rattle.schedule.specs.Plan.{called, filled, scratchAt, planAccepted, startOf, processorOf, planFor, planCall}
+use Rattle.schedule.specs.Plan.{called, scratchAt, planAccepted, startOf, processorOf, planFor, planCall}
 use Rattle.schedule.specs.Cover.{covered, coverAccepted, coverFor, coverCall}
 use Rattle.schedule.specs.Check.{checkOf, checkedAs, checkFor, checkCall}
 

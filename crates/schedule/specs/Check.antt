@@ -5,7 +5,7 @@ use mathlib.Core.List.{List}
 use Prim.Native.Nat.{ℕ}
 use lib.Dec.{ltb}
 use lib.ListN.{length, getD}
-use Rattle.job.specs.Number.{pick}
+use Rattle.base.specs.Choice.{pick}
 use Rattle.job.specs.Read.{Answer, accepted, refused, readJob}
 use Rattle.etf.specs.Instance.{Instance, tasks}
 use Rattle.etf.specs.Schedule.{scheduleOf}

@@ -1,7 +1,8 @@
 -- The cover call: its answer, and what the borrowed slices hold afterwards.
 use mathlib.Core.List.{List}
 use Prim.Native.Nat.{ℕ}
-use Rattle.job.specs.Number.{pick}
+use Rattle.base.specs.Choice.{pick}
+use Rattle.base.specs.Slices.{filled}
 use Rattle.job.specs.Read.{Answer, accepted, refused, readJob}
 use Rattle.etf.specs.Instance.{Instance, tasks}
 use Rattle.etf.specs.Cover.{cover}
@@ -9,7 +10,7 @@ use Rattle.etf.specs.Dearest.{dearest}
 use Rattle.etf.specs.OfJob.{instance}
 use Rattle.schedule.specs.declared.Covered.{Covered}
 use Rattle.schedule.specs.declared.Covered.the-variants.{Cover, Refused}
-use Rattle.schedule.specs.Plan.{filled, startOf, processorOf, scratchAt, tooShort}
+use Rattle.schedule.specs.Plan.{startOf, processorOf, scratchAt, tooShort}
 
 -- what a call returns, and the last content of the starts, the processors and the scratch that it was lent
 pub record CoverCall : Type 0 where

@@ -6,14 +6,15 @@ use mathlib.Core.List.{List, []}
 use Prim.Native.Nat.{ℕ, zero, suc, _+_, _*_, _≤_, _<_}
 use lib.Dec.{ltb, eqb}
 use lib.ListN.{length, getD}
-use Rattle.job.specs.Number.{pick}
+use Rattle.base.specs.Choice.{pick}
+use Rattle.base.specs.Rows.{most}
 use Rattle.etf.specs.Instance.{Instance}
 use Rattle.etf.specs.Cover.{cover}
 use Rattle.etf.specs.Dearest.{dearest}
 use Rattle.schedule.specs.declared.Covered.{Covered}
 use Rattle.schedule.specs.declared.Covered.the-variants.{Cover}
 use Rattle.schedule.specs.Plan.{startOf, processorOf}
-use Rattle.schedule.specs.Pass.{most, Ran}
+use Rattle.schedule.specs.Pass.{Ran}
 
 -- r is the first of the n places whose value is the greatest; `none` where each is 0
 pub record FirstMost (none n : ℕ) (f : ℕ → ℕ) (r : ℕ) : Type 0 where

@@ -1,8 +1,5 @@
-pub mod Lists
-pub mod Most
 pub mod Lifted
 pub mod First
-pub mod Filled
 pub mod Tried
 pub mod Sending
 pub mod Progress

@@ -6,29 +6,23 @@ use mathlib.Core.List.{List, [], _∷_}
 use Prim.Native.Nat.{ℕ, zero, suc, _+_, _*_, _-_, _≤_, _<_, max, min}
 use lib.Dec.{leb, ltb, eqb}
 use lib.ListN.{length, getD, set}
+use Rattle.base.specs.Choice.{pick}
+use Rattle.base.specs.Lists.{values, upto, filter}
+use Rattle.base.specs.Rows.{sum, one-if, most}
+use Rattle.base.specs.Slices.{filled}
 use Rattle.job.specs.declared.Platform.{Platform}
-use Rattle.job.specs.declared.Verdict.{Verdict}
-use Rattle.job.specs.declared.Verdict.the-variants.{Counts, Refused}
-use Rattle.job.specs.Number.{pick}
 use Rattle.job.specs.Accepted.{Accepted}
-use Rattle.job.specs.Write.{values, heldJob}
-use Rattle.etf.specs.Lists.{upto, filter}
+use Rattle.job.specs.Write.{heldJob}
 use Rattle.etf.specs.Instance.{Instance}
 use Rattle.etf.specs.Schedule.{end}
 use Rattle.etf.specs.Topology.{cost, square}
 use Rattle.etf.specs.Rule.{planned}
-use Rattle.etf.specs.Laws.Sums.{sum, one-if}
 use Rattle.schedule.specs.declared.planner.Pair.{Pair}
 use Rattle.schedule.specs.declared.planner.Moment.{Moment}
 use Rattle.schedule.specs.declared.planner.Choice.{Choice}
-use Rattle.schedule.specs.Plan.{filled, startOf, processorOf, scratchAt}
+use Rattle.schedule.specs.Plan.{startOf, processorOf, scratchAt}
 
 -- ---- numbers and tests over a row of places
-
--- the greatest of f 0 .. f (n - 1), 0 if there is none
-unfoldable pub most : ℕ → (ℕ → ℕ) → ℕ
-most zero f = 0
-most (suc n) f = max (most n f) (f n)
 
 -- r is the first place below m where `bad` holds, or m where there is none
 pub record First (bad : ℕ → Type 0) (m r : ℕ) : Type 0 where
@@ -141,7 +135,7 @@ pub record Sent (first last finish n : ℕ) (row to counts arrivals arrivals′ 
   pub latest-at : (T : ℕ) → getD latest′ T 0 ≡ max (getD latest T 0) (most last (λ k. pick (sentTo to first T k) finish 0))
 
 -- a placement written down
-pub record Put (T P start finish : ℕ) (starts starts′ processors processors′ busy busy′ waiting waiting′ : List ℕ) : Type 0 where
+pub record WrittenDown (T P start finish : ℕ) (starts starts′ processors processors′ busy busy′ waiting waiting′ : List ℕ) : Type 0 where
   pub starts-are : starts′ ≡ set starts T start
   pub processors-are : processors′ ≡ set processors T P
   pub busy-are : busy′ ≡ set busy P finish
@@ -191,11 +185,6 @@ pub record Ran (I : Instance) (m r : ℕ) (starts starts′ processors processor
 -- one of three slices of these lengths is too short for m tasks
 unfoldable pub shortOf : ℕ → ℕ → ℕ → ℕ → Bool
 shortOf m starts processors scratch = ltb starts m || (ltb processors m || ltb scratch 4096)
-
--- the number of a refused file
-abbrev pub verdictNumber : Verdict → ℕ
-verdictNumber (Counts m l) = 0
-verdictNumber (Refused k) = k
 
 -- ---- the checker, in terms of the arrays
 

@@ -1,12 +1,12 @@
 -- A call of the planner: its answer, and what the borrowed slices hold afterwards.
 use mathlib.Core.Bool.{Bool, _&&_, _||_}
-use mathlib.Core.List.{List, _++_, map}
+use mathlib.Core.List.{List}
 use Prim.Native.Nat.{ℕ, _/_, _%_}
 use lib.Dec.{ltb}
-use lib.ListN.{length, drop}
-use Rattle.job.specs.Number.{pick}
+use lib.ListN.{length}
+use Rattle.base.specs.Slices.{filled}
+use Rattle.base.specs.Choice.{pick}
 use Rattle.job.specs.Read.{Answer, accepted, refused, readJob}
-use Rattle.etf.specs.Lists.{upto}
 use Rattle.etf.specs.Instance.{Instance, tasks}
 use Rattle.etf.specs.Schedule.{placementOf, arrival, end}
 use Rattle.etf.specs.Rule.{planned}
@@ -24,10 +24,6 @@ pub record PlanCall : Type 0 where
 -- a call that returns r and leaves these in the slices
 abbrev pub called : Planned → List ℕ → List ℕ → List ℕ → PlanCall
 called r starts processors scratch = record { answer = r; starts = starts; processors = processors; scratch = scratch }
-
--- a slice whose first k places hold f 0 .. f (k - 1), and whose others hold what they held (01: "places past m keep their old content")
-unfoldable pub filled : (ℕ → ℕ) → ℕ → List ℕ → List ℕ
-filled f k old = map f (upto k) ++ drop k old
 
 module _ (I : Instance) where
   -- the start (01: "start ticks") of task T in the planner's schedule, and its processor (01: "boards")

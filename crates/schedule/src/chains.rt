@@ -1,14 +1,14 @@
 // The dearest chain (document 01, "The cover C").
-use crate::number;
 use job::Platform;
 ghost use mathlib.Core.Path.{_≡_};
 ghost use mathlib.Core.List.{[]};
 ghost use Prim.Native.Nat.{ℕ, _≤_, _<_};
 ghost use lib.ListN.{length, getD};
+ghost use Rattle.base.specs.Rows.{most as mostOf};
 ghost use Rattle.job.specs.Write.{heldJob};
 ghost use Rattle.etf.specs.OfJob.{instance};
 ghost use Rattle.etf.specs.Dearest.{dearest as dearestOf};
-ghost use Rattle.schedule.specs.Pass.{most as mostOf, InArrays};
+ghost use Rattle.schedule.specs.Pass.{InArrays};
 ghost use Rattle.schedule.specs.CoverPass.{greatestIn, chainBy, Chained};
 
 // The greatest of the first n numbers of a row.
@@ -57,9 +57,9 @@ fn sum(edges: usize, from: &[u8], to: &[u8], counts: &[u16], cost: u32) -> u32
     let mut most: u32 = 0;
     let mut k: usize = 0;
     while k < edges {
-        let s = number::index(from[k]);
-        let t = number::index(to[k]);
-        let sum = sums[s] + number::wide16(counts[k]) * cost;
+        let s = base::index(from[k]);
+        let t = base::index(to[k]);
+        let sum = sums[s] + base::wide16(counts[k]) * cost;
         if sums[t] < sum {
             sums[t] = sum;
         }
@@ -85,6 +85,6 @@ pub fn dearest<'a>(
     requires { ⌜ InArrays platform tasks edges (now durations) (now from) (now to) (now counts) costs ⌝ }
     ensures { λ r. ⌜ r ≡ dearestOf (instance (heldJob platform tasks edges (now (durations .entry)) (now (from .entry)) (now (to .entry)) (now (counts .entry)))) ⌝ }
 {
-    let cost = greatest_cost(costs, number::index(platform.processors));
+    let cost = greatest_cost(costs, base::index(platform.processors));
     sum(edges, from, to, counts, cost)
 }

@@ -1,5 +1,4 @@
 // The checker (document 01, "The checker"): the number of a plan's first trouble, or 0 for none.
-use crate::number;
 use job::Platform;
 ghost use mathlib.Core.Path.{_≡_};
 ghost use mathlib.Core.List.{[]};
@@ -17,7 +16,7 @@ fn first_absent(tasks: usize, n: usize, processors: &[u8]) -> usize
 {
     let mut t: usize = 0;
     while t < tasks {
-        if n <= number::index(processors[t]) {
+        if n <= base::index(processors[t]) {
             return t;
         }
         t += 1;
@@ -121,12 +120,12 @@ fn any_early(
 {
     let mut k: usize = 0;
     while k < edges {
-        let s = number::index(from[k]);
-        let t = number::index(to[k]);
-        let p = number::index(processors[s]);
-        let q = number::index(processors[t]);
+        let s = base::index(from[k]);
+        let t = base::index(to[k]);
+        let p = base::index(processors[s]);
+        let q = base::index(processors[t]);
         let finish = starts[s] + durations[s];
-        let arrival = finish + number::wide16(counts[k]) * costs[p][q];
+        let arrival = finish + base::wide16(counts[k]) * costs[p][q];
         if starts[t] < arrival {
             return true;
         }
@@ -152,12 +151,7 @@ pub fn trouble<'a>(
     requires { ⌜ (tasks ≤ length (now starts)) × (tasks ≤ length (now processors)) ⌝ }
     ensures { λ r. ⌜ r ≡ numberOf (checkOf (instance (heldJob platform tasks edges (now (durations .entry)) (now (from .entry)) (now (to .entry)) (now (counts .entry)))) (λ T. getD (now (processors .entry)) T 0) (λ T. getD (now (starts .entry)) T 0)) ⌝ }
 {
-    let number = misplaced(
-        tasks,
-        number::index(platform.processors),
-        starts,
-        processors,
-    );
+    let number = misplaced(tasks, base::index(platform.processors), starts, processors);
     if number != 0 {
         return number;
     }

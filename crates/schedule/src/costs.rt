@@ -1,6 +1,5 @@
 // Link costs (document 01, "Link costs").
 use crate::hypercube;
-use crate::number;
 use job::Platform;
 ghost use mathlib.Core.Path.{_≡_};
 ghost use Prim.Native.Nat.{_≤_, _<_};
@@ -28,9 +27,9 @@ fn hops(platform: Platform, p: usize, q: usize) -> u32
         return 1;
     }
     if topology == 1 {
-        return number::wide8(hypercube::hops(p, q));
+        return base::wide8(hypercube::hops(p, q));
     }
-    ring_hops(number::index(platform.processors), p, q)
+    ring_hops(base::index(platform.processors), p, q)
 }
 
 // What one message takes from processor p to processor q.
@@ -41,7 +40,7 @@ fn cost(platform: Platform, p: usize, q: usize) -> u32
     if p == q {
         return 0;
     }
-    number::wide8(platform.unit) * hops(platform, p, q)
+    base::wide8(platform.unit) * hops(platform, p, q)
 }
 
 // The costs as a square of sixteen rows of sixteen, 0 where a processor is absent.
@@ -49,7 +48,7 @@ pub fn square(platform: Platform) -> [[u32; 16]; 16]
     requires { ⌜ (platform .processors ≤ 16) × (platform .topology ≤ 2) × (platform .unit ≤ 100) ⌝ }
     ensures { λ r. ⌜ r ≡ squareOf (platform .processors) (costOf platform) ⌝ }
 {
-    let n = number::index(platform.processors);
+    let n = base::index(platform.processors);
     let mut costs = [[0u32; 16]; 16];
     let mut p: usize = 0;
     while p < n {

@@ -1,5 +1,4 @@
 // The task graph: the edges of each task, and how many predecessors it has.
-use crate::number;
 ghost use mathlib.Core.Path.{_≡_};
 ghost use Prim.Native.Nat.{ℕ, _≤_, _<_};
 ghost use lib.ListN.{length, getD};
@@ -12,7 +11,7 @@ fn first_from(from: &[u8], edges: usize, t: usize, k: usize) -> usize
 {
     let mut i = k;
     while i < edges {
-        if t <= number::index(from[i]) {
+        if t <= base::index(from[i]) {
             return i;
         }
         i += 1;
@@ -44,7 +43,7 @@ pub fn predecessors(to: &[u8], edges: usize) -> [u16; 256]
     let mut counts = [0u16; 256];
     let mut k: usize = 0;
     while k < edges {
-        let t = number::index(to[k]);
+        let t = base::index(to[k]);
         counts[t] = counts[t] + 1;
         k += 1;
     }

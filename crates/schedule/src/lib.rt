@@ -4,7 +4,6 @@ mod checker;
 mod costs;
 mod graph;
 mod hypercube;
-mod number;
 mod planner;
 mod walk;
 
@@ -13,12 +12,13 @@ use job::Verdict;
 ghost use mathlib.Core.Path.{_≡_};
 ghost use Prim.Native.Nat.{_≤_};
 ghost use lib.ListN.{length};
+ghost use Rattle.base.specs.Slices.{filled};
 ghost use Rattle.job.specs.Write.{heldJob};
 ghost use Rattle.etf.specs.OfJob.{instance};
-ghost use Rattle.schedule.specs.Plan.{called, filled, planCall};
+ghost use Rattle.schedule.specs.Plan.{called, planCall};
 ghost use Rattle.schedule.specs.Cover.{covered, coverCall};
 ghost use Rattle.schedule.specs.Check.{checkCall};
-ghost use Rattle.schedule.specs.Pass.{InArrays, Room, shortOf, verdictNumber};
+ghost use Rattle.schedule.specs.Pass.{InArrays, Room, shortOf};
 ghost use Rattle.schedule.specs.CoverPass.{Measured};
 
 // What planning a job gives: the number of its tasks and the plan's end, or the refusal's number.
@@ -37,16 +37,6 @@ pub enum Covered {
 pub enum Checked {
     Yes,
     Refused(u8),
-}
-
-// The number of a refused file.
-fn refusal(verdict: Verdict) -> u8
-    ensures { λ r. ⌜ r ≡ verdictNumber verdict ⌝ }
-{
-    match verdict {
-        Verdict::Counts { tasks: _, edges: _ } => 0,
-        Verdict::Refused(number) => number,
-    }
 }
 
 // Whether a slice is too short, by the lengths of the three: fewer starts or processors than tasks, or fewer than 4,096 places of scratch.
@@ -81,7 +71,7 @@ pub fn plan(file: &[u8], starts: &mut [u32], processors: &mut [u8], scratch: &mu
     let r = job::read(file);
     let verdict = r.verdict;
     let Verdict::Counts { tasks, edges } = verdict else {
-        return Planned::Refused(refusal(verdict));
+        return Planned::Refused(job::number(verdict));
     };
     if too_short(tasks, starts.len(), processors.len(), scratch.len()) {
         return Planned::Refused(9);
@@ -158,7 +148,7 @@ pub fn cover(file: &[u8], starts: &mut [u32], processors: &mut [u8], scratch: &m
     let r = job::read(file);
     let verdict = r.verdict;
     let Verdict::Counts { tasks, edges } = verdict else {
-        return Covered::Refused(refusal(verdict));
+        return Covered::Refused(job::number(verdict));
     };
     if too_short(tasks, starts.len(), processors.len(), scratch.len()) {
         return Covered::Refused(9);
@@ -187,7 +177,7 @@ pub fn check(file: &[u8], starts: &[u32], processors: &[u8]) -> Checked
     let r = job::read(file);
     let verdict = r.verdict;
     let Verdict::Counts { tasks, edges } = verdict else {
-        return Checked::Refused(refusal(verdict));
+        return Checked::Refused(job::number(verdict));
     };
     if starts.len() < tasks {
         return Checked::Refused(9);

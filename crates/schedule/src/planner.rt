@@ -1,14 +1,13 @@
 // The planning rule (document 01, "The planning rule").
 use crate::graph;
-use crate::number;
 use job::Platform;
 ghost use mathlib.Core.Path.{_≡_};
 ghost use Prim.Native.Nat.{ℕ, _+_, _*_, _-_, _≤_, _<_};
 ghost use lib.ListN.{length, getD, set};
+ghost use Rattle.base.specs.Rows.{sum, one-if};
 ghost use Rattle.job.specs.Write.{heldJob};
 ghost use Rattle.etf.specs.OfJob.{instance};
-ghost use Rattle.etf.specs.Laws.Sums.{sum, one-if};
-ghost use Rattle.schedule.specs.Pass.{Surveyed, Raised, Sent, Skipped, Put, Looked, Placed, placedMark, InArrays, Room, Ran, firstBest, rowOf, noPair, searched, sentTo};
+ghost use Rattle.schedule.specs.Pass.{Surveyed, Raised, Sent, Skipped, WrittenDown, Looked, Placed, placedMark, InArrays, Room, Ran, firstBest, rowOf, noPair, searched, sentTo};
 
 // A task, a processor and the start that the task would have there; 4294967295 where there is none.
 pub struct Pair {
@@ -197,8 +196,8 @@ fn send(
 {
     let mut k = first;
     while k < last {
-        let t = number::index(to[k]);
-        raise(arrivals, t, n, finish, number::wide16(counts[k]), row);
+        let t = base::index(to[k]);
+        raise(arrivals, t, n, finish, base::wide16(counts[k]), row);
         if latest[t] < finish {
             latest[t] = finish;
         }
@@ -234,7 +233,7 @@ fn put(
     waiting: &mut [u16],
 )
     requires { ⌜ (task < length (now starts)) × (task < length (now processors)) × (processor < length (now busy)) × (task < length (now waiting)) × (processor < 16) ⌝ }
-    ensures { λ _. ⌜ Put task processor start finish (now (starts .entry)) (now (starts .exit)) (now (processors .entry)) (now (processors .exit)) (now (busy .entry)) (now (busy .exit)) (now (waiting .entry)) (now (waiting .exit)) ⌝ }
+    ensures { λ _. ⌜ WrittenDown task processor start finish (now (starts .entry)) (now (starts .exit)) (now (processors .entry)) (now (processors .exit)) (now (busy .entry)) (now (busy .exit)) (now (waiting .entry)) (now (waiting .exit)) ⌝ }
 {
     starts[task] = start;
     processors[task] = processor as u8;
@@ -304,7 +303,7 @@ pub fn run<'a>(
     requires { ⌜ Room tasks (now starts) (now processors) (now arrivals) ⌝ }
     ensures { λ r. ⌜ Ran (instance (heldJob platform tasks edges (now (durations .entry)) (now (from .entry)) (now (to .entry)) (now (counts .entry)))) tasks r (now (starts .entry)) (now (starts .exit)) (now (processors .entry)) (now (processors .exit)) (now (arrivals .entry)) (now (arrivals .exit)) ⌝ }
 {
-    let n = number::index(platform.processors);
+    let n = base::index(platform.processors);
     let runs = graph::runs(from, tasks, edges);
     let mut waiting = graph::predecessors(to, edges);
     let mut latest = [0u32; 256];

@@ -1,26 +1,21 @@
 -- What the functions for benchmark and differential return and leave, over what the job reader and writer and the cover call return and leave.
 use mathlib.Core.Path.{_≡_}
-use mathlib.Core.Bool.{not}
-use mathlib.Core.List.{List, [], _∷_}
+use mathlib.Core.List.{List, _∷_}
 use Prim.Native.Nat.{ℕ, _-_}
-use lib.Dec.{ltb, eqb}
-use lib.ListN.{length, getD}
+use lib.Dec.{ltb}
+use lib.ListN.{length, getD, drop}
+use Rattle.base.specs.Choice.{pick}
 use Rattle.job.specs.declared.Reading.{Reading}
 use Rattle.job.specs.declared.Verdict.{Verdict}
 use Rattle.job.specs.declared.Verdict.the-variants.{Counts, Refused as NotRead}
 use Rattle.job.specs.declared.Written.{Written}
 use Rattle.job.specs.declared.Written.the-variants.{Length, Refused as NotWritten}
-use Rattle.job.specs.Number.{pick}
 use Rattle.job.specs.Job.{Job}
+use Rattle.job.specs.Read.{Answer, accepted, refused, readJob, verdictNumber}
 use Rattle.job.specs.Write.{heldJob, writeAnswer, writeOut}
 use Rattle.schedule.specs.declared.Covered.{Covered}
 use Rattle.schedule.specs.declared.Covered.the-variants.{Cover, Refused as NotCovered}
 use Rattle.schedule.specs.Cover.{CoverCall, coverCall}
-
--- 0 for an accepted file, or the refusal's number
-abbrev pub readNumber : Verdict → ℕ
-readNumber (Counts m l) = 0
-readNumber (NotRead k) = k
 
 -- 0 for a job that was written, or the refusal's number
 abbrev pub writtenNumber : Written → ℕ
@@ -34,7 +29,7 @@ numberAt r place =
     (pick (ltb place 1280) (getD (r .from) (place - 256) 0)
     (pick (ltb place 2304) (getD (r .to) (place - 1280) 0)
     (pick (ltb place 3328) (getD (r .counts) (place - 2304) 0)
-    (readNumber (r .verdict)))))
+    (verdictNumber (r .verdict)))))
 
 -- the first m tasks and l edges of what was read
 unfoldable pub heldIn : Reading → ℕ → ℕ → Job
@@ -60,9 +55,9 @@ abbrev pub refusalIn : Covered → ℕ
 refusalIn (Cover C D) = 0
 refusalIn (NotCovered k) = k
 
--- the two numbers of an accepted cover call, or what the output held
+-- the two numbers of an accepted cover call at the front of the output, or what it held
 abbrev pub numbersIn : Covered → List ℕ → List ℕ
-numbersIn (Cover C D) out = C ∷ D ∷ []
+numbersIn (Cover C D) out = C ∷ D ∷ drop 2 out
 numbersIn (NotCovered k) out = out
 
 -- what a call returns, and the last content of the starts, the processors, the scratch and the output
@@ -81,8 +76,13 @@ coverReturned k starts processors scratch out =
 abbrev pub withOutput : CoverCall → List ℕ → CoverReturned
 withOutput c out = coverReturned (refusalIn (c .answer)) (c .starts) (c .processors) (c .scratch) (numbersIn (c .answer) out)
 
--- 9 if the output has not two places
+-- a refused file's number, or 9
+unfoldable pub orNine : Answer → ℕ
+orNine (accepted j) = 9
+orNine (refused k) = k
+
+-- 01: "Then 8, then 9 for any slice lent to the call": the output, too, may be too short
 unfoldable pub coverTimed : List ℕ → List ℕ → List ℕ → List ℕ → List ℕ → CoverReturned
 coverTimed file starts processors scratch out =
-    pick (not (eqb (length out) 2)) (coverReturned 9 starts processors scratch out)
+    pick (ltb (length out) 2) (coverReturned (orNine (readJob file)) starts processors scratch out)
     (withOutput (coverCall file starts processors scratch) out)

@@ -4,29 +4,7 @@ use job::Written;
 use schedule::Covered;
 ghost use mathlib.Core.Path.{_≡_};
 ghost use Rattle.job.specs.Read.{readJob, readingOf};
-ghost use Rattle.timing.specs.Timing.{readNumber, writtenNumber, numberAt, Copied, refusalIn, coverReturned, coverTimed};
-
-fn wide8(x: u8) -> u32
-    ensures { λ r. ⌜ r ≡ x ⌝ }
-{
-    x as u32
-}
-
-fn wide16(x: u16) -> u32
-    ensures { λ r. ⌜ r ≡ x ⌝ }
-{
-    x as u32
-}
-
-// 0 for an accepted file, or the refusal's number.
-fn read_number(verdict: Verdict) -> u32
-    ensures { λ r. ⌜ r ≡ readNumber verdict ⌝ }
-{
-    match verdict {
-        Verdict::Counts { tasks: _, edges: _ } => 0,
-        Verdict::Refused(number) => wide8(number),
-    }
-}
+ghost use Rattle.timing.specs.Timing.{writtenNumber, numberAt, Copied, refusalIn, coverReturned, coverTimed};
 
 // 0 for a job that was written, or the refusal's number.
 fn written_number(written: Written) -> u32
@@ -34,7 +12,7 @@ fn written_number(written: Written) -> u32
 {
     match written {
         Written::Length(_) => 0,
-        Written::Refused(number) => wide8(number),
+        Written::Refused(number) => base::wide8(number),
     }
 }
 
@@ -48,16 +26,16 @@ pub extern "C" fn timing_read(file: &[u8], place: usize) -> u32
         return r.durations[place];
     }
     if place < 1280 {
-        return wide8(r.from[place - 256]);
+        return base::wide8(r.from[place - 256]);
     }
     if place < 2304 {
-        return wide8(r.to[place - 1280]);
+        return base::wide8(r.to[place - 1280]);
     }
     if place < 3328 {
-        return wide16(r.counts[place - 2304]);
+        return base::wide16(r.counts[place - 2304]);
     }
     let verdict = r.verdict;
-    read_number(verdict)
+    base::wide8(job::number(verdict))
 }
 
 // Reads a file and writes its job to `out`: 0, or the refusal's number.
@@ -68,7 +46,7 @@ pub extern "C" fn timing_copy(file: &[u8], out: &mut [u8]) -> u32
     let r = job::read(file);
     let verdict = r.verdict;
     let Verdict::Counts { tasks, edges } = verdict else {
-        return read_number(verdict);
+        return base::wide8(job::number(verdict));
     };
     let written = job::write(
         r.platform,
@@ -92,11 +70,12 @@ fn cover_refusal(covered: Covered) -> u32
             cover: _,
             dearest: _,
         } => 0,
-        Covered::Refused(number) => wide8(number),
+        Covered::Refused(number) => base::wide8(number),
     }
 }
 
-// The cover call: 0 with the cover and the dearest chain in the two places of `out`, or the refusal's number; 9 too if `out` has not two places.
+// The cover call: 0 with the cover and the dearest chain in the first two places of `out`, or the refusal's number; `out` is one of the slices
+// that can be too short (9).
 #[no_mangle]
 pub extern "C" fn timing_cover(
     file: &[u8],
@@ -107,7 +86,12 @@ pub extern "C" fn timing_cover(
 ) -> u32
     ensures { λ r. ⌜ coverReturned r (now (starts .exit)) (now (processors .exit)) (now (scratch .exit)) (now (out .exit)) ≡ coverTimed (now (file .entry)) (now (starts .entry)) (now (processors .entry)) (now (scratch .entry)) (now (out .entry)) ⌝ }
 {
-    if out.len() != 2 {
+    if out.len() < 2 {
+        let r = job::read(file);
+        let verdict = r.verdict;
+        let Verdict::Counts { tasks: _, edges: _ } = verdict else {
+            return base::wide8(job::number(verdict));
+        };
         return 9;
     }
     let covered = schedule::cover(file, starts, processors, scratch);

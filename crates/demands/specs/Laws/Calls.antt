@@ -7,46 +7,36 @@ use Prim.Native.Nat.{ℕ, _≤_, _<_}
 use native.Mathlib.Omega.{arith}
 use borrow.Author.Tests.{lt-ltb, le-ltb}
 use lib.ListN.{length}
+use Rattle.base.specs.Laws.Tests.{impossible, le-or-lt}
 use Rattle.job.specs.Job.{Job}
 use Rattle.job.specs.Read.{Answer, accepted, refused, readJob}
-use Rattle.job.specs.Laws.Tests.{never}
 use Rattle.etf.specs.Instance.{tasks}
 use Rattle.etf.specs.Schedule.{end}
 use Rattle.etf.specs.Rule.{planned}
 use Rattle.etf.specs.Cover.{cover}
 use Rattle.etf.specs.Dearest.{dearest}
 use Rattle.etf.specs.OfJob.{instance}
-use Rattle.etf.specs.Laws.Tests.{le-or-lt}
 use Rattle.schedule.specs.declared.Planned.the-variants.{Plan, Refused}
 use Rattle.schedule.specs.declared.Covered.the-variants.{Cover, Refused as NotCovered}
 use Rattle.schedule.specs.Plan.{tooShort, planAccepted, planFor, planCall}
 use Rattle.schedule.specs.Cover.{coverAccepted, coverFor, coverCall}
+use Rattle.demands.specs.Room.{Short, HasRoom}
 
 module _ (m : ℕ) (starts processors scratch : List ℕ) where
-  -- a slice is too short for m tasks
-  abbrev pub Short : Type 0
-  Short = (length starts < m) ⊎ ((length processors < m) ⊎ (length scratch < 4096))
-
-  -- each has room
-  pub record Fits : Type 0 where
-    pub for-starts : m ≤ length starts
-    pub for-processors : m ≤ length processors
-    pub for-scratch : 4096 ≤ length scratch
-
-  pub short-or-fits : Short ⊎ Fits
-  short-or-fits = go (le-or-lt m (length starts)) (le-or-lt m (length processors)) (le-or-lt 4096 (length scratch))
+  pub short-or-room : Short m starts processors scratch ⊎ HasRoom m starts processors scratch
+  short-or-room = go (le-or-lt m (length starts)) (le-or-lt m (length processors)) (le-or-lt 4096 (length scratch))
     where
       go : (m ≤ length starts) ⊎ (length starts < m) → (m ≤ length processors) ⊎ (length processors < m) → (4096 ≤ length scratch) ⊎ (length scratch < 4096)
-          → Short ⊎ Fits
+          → Short m starts processors scratch ⊎ HasRoom m starts processors scratch
       go (inr a) b c = inl (inl a)
       go (inl a) (inr b) c = inl (inr (inl b))
       go (inl a) (inl b) (inr c) = inl (inr (inr c))
       go (inl a) (inl b) (inl c) = inr (record { for-starts = a; for-processors = b; for-scratch = c })
 
-  pub short-true : Short → tooShort m starts processors scratch ≡ true
+  pub short-true : Short m starts processors scratch → tooShort m starts processors scratch ≡ true
   short-true s = go (le-or-lt m (length starts)) (le-or-lt m (length processors)) s
     where
-      go : (m ≤ length starts) ⊎ (length starts < m) → (m ≤ length processors) ⊎ (length processors < m) → Short
+      go : (m ≤ length starts) ⊎ (length starts < m) → (m ≤ length processors) ⊎ (length processors < m) → Short m starts processors scratch
           → tooShort m starts processors scratch ≡ true
       go (inr a) b s = rw (lt-ltb (length starts) m a)
       go (inl a) (inr b) s = rw (le-ltb (length starts) m a, lt-ltb (length processors) m b)
@@ -54,8 +44,8 @@ module _ (m : ℕ) (starts processors scratch : List ℕ) where
       go (inl a) (inl b) (inr (inl s)) = absurd (omega (arith, b, s))
       go (inl a) (inl b) (inr (inr s)) = rw (le-ltb (length starts) m a, le-ltb (length processors) m b, lt-ltb (length scratch) 4096 s)
 
-  pub fits-false : Fits → tooShort m starts processors scratch ≡ false
-  fits-false f = rw (le-ltb (length starts) m (f .for-starts), le-ltb (length processors) m (f .for-processors), le-ltb (length scratch) 4096 (f .for-scratch))
+  pub room-false : HasRoom m starts processors scratch → tooShort m starts processors scratch ≡ false
+  room-false f = rw (le-ltb (length starts) m (f .for-starts), le-ltb (length processors) m (f .for-processors), le-ltb (length scratch) 4096 (f .for-scratch))
 
 -- ---- an acceptance: the file is accepted, the slices have room
 
@@ -63,7 +53,7 @@ module _ (m : ℕ) (starts processors scratch : List ℕ) where
 pub record PlannedAs (file starts processors scratch : List ℕ) (m E : ℕ) : Type 0 where
   pub job : Job
   pub says : readJob file ≡ accepted job
-  pub fits : Fits (tasks (instance job)) starts processors scratch
+  pub has-room : HasRoom (tasks (instance job)) starts processors scratch
   pub tasks-are : m ≡ tasks (instance job)
   pub end-is : E ≡ end (instance job) (planned (instance job))
   pub call-is : planCall file starts processors scratch ≡ planAccepted (instance job) starts processors scratch
@@ -73,19 +63,19 @@ pub planned-as : (file starts processors scratch : List ℕ) (m E : ℕ) → pla
 unfolding planCall planFor planAccepted
 planned-as file starts processors scratch m E h = go (readJob file) refl h
   where
-    held : (j : Job) → readJob file ≡ accepted j → Short (tasks (instance j)) starts processors scratch ⊎ Fits (tasks (instance j)) starts processors scratch
+    held : (j : Job) → readJob file ≡ accepted j → Short (tasks (instance j)) starts processors scratch ⊎ HasRoom (tasks (instance j)) starts processors scratch
         → planFor (accepted j) starts processors scratch .answer ≡ Plan m E → PlannedAs file starts processors scratch m E
     held j e (inl s) w =
         let v : Refused 9 ≡ Plan m E = rw (short-true (tasks (instance j)) starts processors scratch s) at w in
         let z : false ≡ true = cc in
-        never z
+        impossible z
     held j e (inr f) w =
-        let v : Plan (tasks (instance j)) (end (instance j) (planned (instance j))) ≡ Plan m E = rw (fits-false (tasks (instance j)) starts processors scratch f) at w in
-        record { job = j; says = e; fits = f; tasks-are = cc; end-is = cc; call-is = rw (e, planFor, fits-false (tasks (instance j)) starts processors scratch f) }
+        let v : Plan (tasks (instance j)) (end (instance j) (planned (instance j))) ≡ Plan m E = rw (room-false (tasks (instance j)) starts processors scratch f) at w in
+        record { job = j; says = e; has-room = f; tasks-are = cc; end-is = cc; call-is = rw (e, planFor, room-false (tasks (instance j)) starts processors scratch f) }
 
     go : (a : Answer) → readJob file ≡ a → planFor a starts processors scratch .answer ≡ Plan m E → PlannedAs file starts processors scratch m E
-    go (accepted j) e w = held j e (short-or-fits (tasks (instance j)) starts processors scratch) w
-    go (refused k) e w = let z : false ≡ true = cc in never z
+    go (accepted j) e w = held j e (short-or-room (tasks (instance j)) starts processors scratch) w
+    go (refused k) e w = let z : false ≡ true = cc in impossible z
 
 -- what the cover call's says
 pub record CoveredAs (file starts processors scratch : List ℕ) (C D : ℕ) : Type 0 where
@@ -99,19 +89,19 @@ pub covered-as : (file starts processors scratch : List ℕ) (C D : ℕ) → cov
 unfolding coverCall coverFor coverAccepted
 covered-as file starts processors scratch C D h = go (readJob file) refl h
   where
-    held : (j : Job) → readJob file ≡ accepted j → Short (tasks (instance j)) starts processors scratch ⊎ Fits (tasks (instance j)) starts processors scratch
+    held : (j : Job) → readJob file ≡ accepted j → Short (tasks (instance j)) starts processors scratch ⊎ HasRoom (tasks (instance j)) starts processors scratch
         → coverFor (accepted j) starts processors scratch .answer ≡ Cover C D → CoveredAs file starts processors scratch C D
     held j e (inl s) w =
         let v : NotCovered 9 ≡ Cover C D = rw (short-true (tasks (instance j)) starts processors scratch s) at w in
         let z : false ≡ true = cc in
-        never z
+        impossible z
     held j e (inr f) w =
-        let v : Cover (cover (instance j)) (dearest (instance j)) ≡ Cover C D = rw (fits-false (tasks (instance j)) starts processors scratch f) at w in
+        let v : Cover (cover (instance j)) (dearest (instance j)) ≡ Cover C D = rw (room-false (tasks (instance j)) starts processors scratch f) at w in
         record { job = j; says = e; cover-is = cc; dearest-is = cc }
 
     go : (a : Answer) → readJob file ≡ a → coverFor a starts processors scratch .answer ≡ Cover C D → CoveredAs file starts processors scratch C D
-    go (accepted j) e w = held j e (short-or-fits (tasks (instance j)) starts processors scratch) w
-    go (refused k) e w = let z : false ≡ true = cc in never z
+    go (accepted j) e w = held j e (short-or-room (tasks (instance j)) starts processors scratch) w
+    go (refused k) e w = let z : false ≡ true = cc in impossible z
 
 -- two answers to one file are about one job
 pub one-job : {a : Answer} {i j : Job} → a ≡ accepted i → a ≡ accepted j → i ≡ j

@@ -9,22 +9,21 @@ use native.Mathlib.Omega.{arith}
 use borrow.Author.Tests.{ltb-true}
 use lib.Dec.{ltb}
 use lib.ListN.{length, getD}
+use Rattle.base.specs.Choice.{pick}
+use Rattle.base.specs.Laws.Tests.{impossible, le-or-lt}
 use Rattle.job.specs.declared.Platform.{Platform}
 use Rattle.job.specs.declared.Verdict.the-variants.{Counts, Refused as NotRead}
 use Rattle.job.specs.declared.Written.{Written}
 use Rattle.job.specs.declared.Written.the-variants.{Length, Refused as NotWritten}
-use Rattle.job.specs.Number.{pick}
 use Rattle.job.specs.Job.{Job}
 use Rattle.job.specs.Read.{Answer, accepted, refused, readJob, readingOf}
 use Rattle.job.specs.Write.{fileOf, fileLength, heldJob, Held, roomFor, writeAnswer, writeOut}
 use Rattle.job.specs.Refusal.{read-numbers, write-numbers}
-use Rattle.job.specs.Laws.Tests.{never}
 use Rattle.etf.specs.Instance.{Instance, tasks}
 use Rattle.etf.specs.Schedule.{Placement, scheduleOf}
 use Rattle.etf.specs.Checker.{Because, no-processor, too-late, overlaps, too-early}
 use Rattle.etf.specs.OfJob.{instance}
 use Rattle.etf.specs.Verdict.{number-only}
-use Rattle.etf.specs.Laws.Tests.{le-or-lt}
 use Rattle.schedule.specs.declared.Checked.{Checked}
 use Rattle.schedule.specs.declared.Checked.the-variants.{Yes, Refused as NotChecked}
 use Rattle.schedule.specs.Check.{checkOf, checkedAs, numberOf, checkFor, checkCall}
@@ -74,7 +73,7 @@ said I processor start k e = number-only I (scheduleOf I processor start) k e
 -- and it is said where the call answers by it, on slices or from C
 is-some : (o : Option ℕ) (k : ℕ) → checkedAs o ≡ NotChecked k → o ≡ some k
 unfolding checkedAs
-is-some none k e = let z : false ≡ true = cc in never z
+is-some none k e = let z : false ≡ true = cc in impossible z
 is-some (some n) k e = cc
 
 number-some : (o : Option ℕ) (k : ℕ) → 1 ≤ k → numberOf o ≡ k → o ≡ some k

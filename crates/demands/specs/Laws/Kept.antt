@@ -8,11 +8,12 @@ use Prim.Native.Nat.{ℕ, _*_, _≤_, _<_}
 use native.Mathlib.Omega.{arith}
 use borrow.Author.Tests.{lt-ltb, le-ltb}
 use lib.ListN.{length, getD, drop}
+use Rattle.base.specs.Laws.Tests.{impossible, le-or-lt}
+use Rattle.base.specs.Laws.Filled.{filled-at}
 use Rattle.job.specs.Job.{Edge, Job}
 use Rattle.job.specs.Read.{Answer, accepted, refused, readJob}
 use Rattle.job.specs.Accepted.{accepted-job}
 use Rattle.job.specs.Refusal.{read-numbers}
-use Rattle.job.specs.Laws.Tests.{never}
 use Rattle.etf.specs.Instance.{Instance, tasks}
 use Rattle.etf.specs.Schedule.{Placement, placementOf, scheduleOf}
 use Rattle.etf.specs.Rule.{planned}
@@ -23,16 +24,15 @@ use Rattle.etf.specs.Walks.{CoverWalk, cover-walk}
 use Rattle.etf.specs.Chains.{none-dearer, one-as-dear}
 use Rattle.etf.specs.OfJob.{instance}
 use Rattle.etf.specs.Jobs.{well-formed}
-use Rattle.etf.specs.Laws.Tests.{le-or-lt}
 use Rattle.schedule.specs.declared.Checked.the-variants.{Yes}
 use Rattle.schedule.specs.Plan.{startOf, processorOf, planAccepted, planFor, planCall}
 use Rattle.schedule.specs.Cover.{coverAccepted, coverFor}
 use Rattle.schedule.specs.Check.{checkOf, checkedAs, numberOf, checkFor, checkCall}
-use Rattle.schedule.specs.Laws.Filled.{filled-at}
 use Rattle.kelvrist.specs.PlanBytes.{planBytes, processorIn, startIn, planBytesFor, planBytesCall, checkBytesFor, checkBytesCall}
 use Rattle.kelvrist.specs.Laws.Decoded.{processor-back, start-back}
 use Rattle.kelvrist.specs.Laws.OwnPlan.{start-fits}
-use Rattle.demands.specs.Laws.Calls.{Short, Fits, short-or-fits, short-true, fits-false, PlannedAs, CoveredAs}
+use Rattle.demands.specs.Room.{Short, HasRoom}
+use Rattle.demands.specs.Laws.Calls.{short-or-room, short-true, room-false, PlannedAs, CoveredAs}
 
 -- ---- the planner's slices
 
@@ -52,14 +52,14 @@ pub same-slices : (a : Answer) (starts processors scratch : List ℕ)
     × (coverFor a starts processors scratch .processors ≡ planFor a starts processors scratch .processors)
     × (coverFor a starts processors scratch .scratch ≡ planFor a starts processors scratch .scratch)
 unfolding coverFor planFor coverAccepted planAccepted
-same-slices (accepted j) starts processors scratch = go (short-or-fits (tasks (instance j)) starts processors scratch)
+same-slices (accepted j) starts processors scratch = go (short-or-room (tasks (instance j)) starts processors scratch)
   where
-    go : Short (tasks (instance j)) starts processors scratch ⊎ Fits (tasks (instance j)) starts processors scratch
+    go : Short (tasks (instance j)) starts processors scratch ⊎ HasRoom (tasks (instance j)) starts processors scratch
         → (coverFor (accepted j) starts processors scratch .starts ≡ planFor (accepted j) starts processors scratch .starts)
         × (coverFor (accepted j) starts processors scratch .processors ≡ planFor (accepted j) starts processors scratch .processors)
         × (coverFor (accepted j) starts processors scratch .scratch ≡ planFor (accepted j) starts processors scratch .scratch)
     go (inl s) = rw (short-true (tasks (instance j)) starts processors scratch s) (refl, refl, refl)
-    go (inr f) = rw (fits-false (tasks (instance j)) starts processors scratch f) (refl, refl, refl)
+    go (inr f) = rw (room-false (tasks (instance j)) starts processors scratch f) (refl, refl, refl)
 same-slices (refused k) starts processors scratch = (refl, refl, refl)
 
 -- ---- the cover call's two numbers
@@ -122,7 +122,7 @@ not-zero I ps _ (too-early f a u v b c d g h) e = omega (arith, e)
 yes-none : (o : Option ℕ) → checkedAs o ≡ Yes → o ≡ none
 unfolding checkedAs
 yes-none none e = refl
-yes-none (some k) e = let z : false ≡ true = cc in never z
+yes-none (some k) e = let z : false ≡ true = cc in impossible z
 
 -- and so is the number 0
 zero-none : (I : Instance) (ps : List Placement) → numberOf (check I ps) ≡ 0 → check I ps ≡ none

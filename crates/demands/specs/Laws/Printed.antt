@@ -16,19 +16,19 @@ use Rattle.schedule.specs.declared.Planned.the-variants.{Plan}
 use Rattle.schedule.specs.declared.Covered.the-variants.{Cover}
 use Rattle.schedule.specs.Plan.{startOf, processorOf, planCall}
 use Rattle.schedule.specs.Cover.{coverCall}
-use Rattle.listing.specs.Listing.{text, line, header, taskLines, figures, planListing, listingFor, listing}
+use Rattle.listing.specs.Listing.{refusalLine, header, taskLines, figures, planListing, listingFor, listing}
 use Rattle.listing.specs.Laws.Listed.{header-same, lines-same, listing-same}
 use Rattle.demands.specs.Laws.Calls.{planned-as, covered-as, one-job}
 use Rattle.demands.specs.Laws.Kept.{slices-hold}
 
 pub prints : (file : List ℕ) → ((j : Job) × (readJob file ≡ accepted j) × (listing file ≡ planListing (instance j)))
-    ⊎ ((k : ℕ) × (readJob file ≡ refused k) × (1 ≤ k) × (k ≤ 8) × (listing file ≡ line (text "refused ") k))
+    ⊎ ((k : ℕ) × (readJob file ≡ refused k) × (1 ≤ k) × (k ≤ 8) × (listing file ≡ refusalLine k))
 unfolding listing listingFor
 prints file = go (readJob file) refl (λ k e. read-numbers file k e)
   where
     go : (a : Answer) → readJob file ≡ a → ((k : ℕ) → readJob file ≡ refused k → (1 ≤ k) × (k ≤ 8))
         → ((j : Job) × (readJob file ≡ accepted j) × (listingFor a ≡ planListing (instance j)))
-        ⊎ ((k : ℕ) × (readJob file ≡ refused k) × (1 ≤ k) × (k ≤ 8) × (listingFor a ≡ line (text "refused ") k))
+        ⊎ ((k : ℕ) × (readJob file ≡ refused k) × (1 ≤ k) × (k ≤ 8) × (listingFor a ≡ refusalLine k))
     go (accepted j) e n = inl (j, e, refl)
     go (refused k) e n = inr (k, e, n k e .0, n k e .1, refl)
 

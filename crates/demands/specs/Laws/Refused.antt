@@ -7,11 +7,10 @@ use Prim.Native.Nat.{ℕ, _*_, _≤_, _<_}
 use native.Mathlib.Omega.{arith}
 use borrow.Author.Tests.{lt-ltb, le-ltb}
 use lib.ListN.{length}
+use Rattle.base.specs.Laws.Tests.{lt-or-ge, impossible}
 use Rattle.job.specs.Job.{Job}
 use Rattle.job.specs.Read.{Answer, accepted, refused, readJob}
 use Rattle.job.specs.Refusal.{read-numbers}
-use Rattle.job.specs.Laws.Number.{lt-or-ge}
-use Rattle.job.specs.Laws.Tests.{never}
 use Rattle.etf.specs.Instance.{tasks}
 use Rattle.etf.specs.Schedule.{end}
 use Rattle.etf.specs.Rule.{planned}
@@ -23,7 +22,8 @@ use Rattle.schedule.specs.declared.Covered.the-variants.{Cover, Refused as NotC
 use Rattle.schedule.specs.Plan.{PlanCall, called, planAccepted, planFor, planCall}
 use Rattle.schedule.specs.Cover.{CoverCall, covered, coverAccepted, coverFor, coverCall}
 use Rattle.kelvrist.specs.PlanBytes.{BytesCall, returned, planBytesFor, planBytesCall}
-use Rattle.demands.specs.Laws.Calls.{Short, Fits, short-or-fits, short-true, fits-false}
+use Rattle.demands.specs.Room.{Short, HasRoom}
+use Rattle.demands.specs.Laws.Calls.{short-or-room, short-true, room-false}
 
 -- ---- any call on a file: what it is lent is too small for some jobs, and has room for others
 
@@ -59,10 +59,10 @@ module _ (file starts processors scratch : List ℕ) where
   SlicesRefused = Refuses file (λ j. Short (tasks (instance j)) starts processors scratch)
 
   abbrev pub SlicesTaken : Type 0
-  SlicesTaken = Accepts file (λ j. Fits (tasks (instance j)) starts processors scratch)
+  SlicesTaken = Accepts file (λ j. HasRoom (tasks (instance j)) starts processors scratch)
 
   slices : ((k : ℕ) × SlicesRefused k) ⊎ SlicesTaken
-  slices = refuses-or-accepts file _ _ (λ j. short-or-fits (tasks (instance j)) starts processors scratch)
+  slices = refuses-or-accepts file _ _ (λ j. short-or-room (tasks (instance j)) starts processors scratch)
 
   -- the planner's call with a cause for k is a refusal by k that leaves the slices as they were
   pub plan-refused : (k : ℕ) → SlicesRefused k → planCall file starts processors scratch ≡ called (NotPlanned k) starts processors scratch
@@ -74,10 +74,10 @@ module _ (file starts processors scratch : List ℕ) where
   plan-number k r = ap (λ (c : PlanCall). c .answer) (plan-refused k r)
 
   -- without one it is a plan
-  plan-taken : (a : SlicesTaken)
+  pub plan-taken : (a : SlicesTaken)
       → planCall file starts processors scratch .answer ≡ Plan (tasks (instance (a .0))) (end (instance (a .0)) (planned (instance (a .0))))
   unfolding planCall planFor planAccepted
-  plan-taken (j, e, f) = rw (e, planFor, fits-false (tasks (instance j)) starts processors scratch f)
+  plan-taken (j, e, f) = rw (e, planFor, room-false (tasks (instance j)) starts processors scratch f)
 
   -- so it answers by one or the other, and by a number only with the number's cause
   pub plan-answered : ((m e : ℕ) × (planCall file starts processors scratch .answer ≡ Plan m e))
@@ -90,7 +90,7 @@ module _ (file starts processors scratch : List ℕ) where
     where
       go : ((i : ℕ) × SlicesRefused i) ⊎ SlicesTaken → SlicesRefused k
       go (inl (i, r)) = let v = sym (plan-number i r) ∙ h in let same : i ≡ k = cc in subst SlicesRefused same r
-      go (inr a) = let v = sym (plan-taken a) ∙ h in let z : false ≡ true = cc in never z
+      go (inr a) = let v = sym (plan-taken a) ∙ h in let z : false ≡ true = cc in impossible z
 
   -- the cover call likewise
   pub cover-refused : (k : ℕ) → SlicesRefused k → coverCall file starts processors scratch ≡ covered (NotCovered k) starts processors scratch
@@ -101,9 +101,9 @@ module _ (file starts processors scratch : List ℕ) where
   pub cover-number : (k : ℕ) → SlicesRefused k → coverCall file starts processors scratch .answer ≡ NotCovered k
   cover-number k r = ap (λ (c : CoverCall). c .answer) (cover-refused k r)
 
-  cover-taken : (a : SlicesTaken) → coverCall file starts processors scratch .answer ≡ Cover (cover (instance (a .0))) (dearest (instance (a .0)))
+  pub cover-taken : (a : SlicesTaken) → coverCall file starts processors scratch .answer ≡ Cover (cover (instance (a .0))) (dearest (instance (a .0)))
   unfolding coverCall coverFor coverAccepted
-  cover-taken (j, e, f) = rw (e, coverFor, fits-false (tasks (instance j)) starts processors scratch f)
+  cover-taken (j, e, f) = rw (e, coverFor, room-false (tasks (instance j)) starts processors scratch f)
 
   pub cover-answered : ((C D : ℕ) × (coverCall file starts processors scratch .answer ≡ Cover C D))
       ⊎ ((k : ℕ) × (coverCall file starts processors scratch .answer ≡ NotCovered k) × (1 ≤ k) × (k ≤ 9))
@@ -115,7 +115,7 @@ module _ (file starts processors scratch : List ℕ) where
     where
       go : ((i : ℕ) × SlicesRefused i) ⊎ SlicesTaken → SlicesRefused k
       go (inl (i, r)) = let v = sym (cover-number i r) ∙ h in let same : i ≡ k = cc in subst SlicesRefused same r
-      go (inr a) = let v = sym (cover-taken a) ∙ h in let z : false ≡ true = cc in never z
+      go (inr a) = let v = sym (cover-taken a) ∙ h in let z : false ≡ true = cc in impossible z
 
   -- so each refuses as the other does
   pub plan-as-cover : (k : ℕ) → coverCall file starts processors scratch .answer ≡ NotCovered k → planCall file starts processors scratch .answer ≡ NotPlanned k

@@ -9,16 +9,16 @@ use Prim.Native.Nat.{ℕ, zero, suc, _+_, _≤_, _<_}
 use native.Mathlib.Omega.{arith}
 use lib.Dec.{ltb, lt→ltb}
 use lib.Dec.{T as Holds}
+use Rattle.base.specs.Lists.{_∈_, best}
+use Rattle.base.specs.Laws.Tests.{not-both, or-left, le-or-lt}
+use Rattle.base.specs.Laws.Lists.{Order, Best, nothing, found, best-is, by-least, by-greatest-then-least}
 use Rattle.job.specs.Job.{Edge}
-use Rattle.etf.specs.Lists.{_∈_, best}
 use Rattle.etf.specs.Instance.{Instance, WellFormed, tasks, into}
 use Rattle.etf.specs.Schedule.{Placement, placementOf, messageTimeTo, reach, arrival}
 use Rattle.etf.specs.Rule.{planned}
 use Rattle.etf.specs.Cover.{Back, busy, idle, someIdle, latestIdleTick, MayGoBack, Walk, stops, goes, lowestIdle, later, latestInto, back, walk}
-use Rattle.etf.specs.Laws.Tests.{not-both, or-left, le-or-lt}
-use Rattle.etf.specs.Laws.Lists.{Order, Best, nothing, found, best-is, by-least, by-greatest-then-least}
 use Rattle.etf.specs.Laws.Placements.{arrival-at}
-use Rattle.etf.specs.Laws.Idle.{idle-of, idle-in, LatestIdleTick, never, at, latest-idle-tick}
+use Rattle.etf.specs.Laws.Idle.{idle-of, idle-in, LatestIdleTick, no-tick, at, latest-idle-tick}
 use Rattle.etf.specs.Laws.Walk.{source}
 use Rattle.etf.specs.Laws.Planned.{sound-plan, home}
 
@@ -81,7 +81,7 @@ module _ (I : Instance) (W : WellFormed I) where
 
       tick : (o : Option ℕ) → latestIdleTick I ps (placementOf ps T .start) ≡ o → LatestIdleTick I ps (placementOf ps T .start) o
           → BackIs T (bind o (λ t. bind (best ltb (idle I ps t)) (λ P. bind (best (later I ps P) (into I T)) (λ e. some (record { edge = e; through = P })))))
-      tick o e (never z) = nowhere e
+      tick o e (no-tick z) = nowhere e
       tick o e (at t ts sh z) = idler t e ts sh (best ltb (idle I ps t)) (best-is ltb (by-least (λ x. x)) (idle I ps t))
 
   -- it stops only where no tick before the start is short

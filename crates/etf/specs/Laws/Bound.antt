@@ -5,16 +5,16 @@ use mathlib.Core.Logic.{_⊎_, inl, inr}
 use Prim.Native.Nat.{ℕ, suc, _+_, _-_, _*_, _≤_, _<_}
 use native.Mathlib.Omega.{arith}
 use native.Mathlib.Nat.{mul-le-mul-left}
-use Rattle.etf.specs.Lists.{upto, greatest}
+use Rattle.base.specs.Lists.{upto, greatest}
+use Rattle.base.specs.Rows.{sum}
+use Rattle.base.specs.Laws.Tests.{le-or-lt}
+use Rattle.base.specs.Laws.Lists.{greatest-ge, greatest-at, upto-in, upto-of}
 use Rattle.etf.specs.Instance.{Instance, WellFormed, tasks, duration}
 use Rattle.etf.specs.Schedule.{placementOf, finish, end}
 use Rattle.etf.specs.Rule.{planned}
 use Rattle.etf.specs.Cover.{Walk}
 use Rattle.etf.specs.Checker.{Apart}
 use Rattle.etf.specs.Ideal.{Ideal, makespan}
-use Rattle.etf.specs.Laws.Tests.{le-or-lt}
-use Rattle.etf.specs.Laws.Lists.{greatest-ge, greatest-at, upto-in, upto-of}
-use Rattle.etf.specs.Laws.Sums.{sum}
 use Rattle.etf.specs.Laws.Placements.{into-in, arrival-ge}
 use Rattle.etf.specs.Laws.Ticks.{idlers, ideal-work, our-work}
 use Rattle.etf.specs.Laws.Walk.{walk-bound}

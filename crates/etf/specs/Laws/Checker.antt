@@ -9,15 +9,15 @@ use Prim.Native.Nat.{ℕ, _+_, _≤_, _<_}
 use native.Mathlib.Omega.{arith}
 use lib.Dec.{leb, ltb, eqb, leb→le, nleb→lt, ltb→lt, lt→ltb, nltb→le, eqb→eq}
 use lib.Dec.{T as Holds}
-use Rattle.job.specs.Number.{pick}
+use Rattle.base.specs.Choice.{pick}
+use Rattle.base.specs.Lists.{_∈_, here, there, any}
+use Rattle.base.specs.Laws.Tests.{not-both, fails, both, first, second, eq→eqb, neqb→ne, le-or-lt}
+use Rattle.base.specs.Laws.Lists.{for-cons, in-nothing, any-not, any-one}
 use Rattle.job.specs.Job.{Edge}
-use Rattle.etf.specs.Lists.{_∈_, here, there, any}
 use Rattle.etf.specs.Instance.{Instance, WellFormed, messageTime}
 use Rattle.etf.specs.Schedule.{Placement, placementOf, finish, messageTimeTo, byTask}
 use Rattle.etf.specs.Rule.{planned}
 use Rattle.etf.specs.Checker.{latestStart, firstAnswer, Apart, InTime, Keeps, misplaced, overlap, early, check, Because, no-processor, too-late, overlaps, too-early}
-use Rattle.etf.specs.Laws.Tests.{not-both, fails, both, first, second, eq→eqb, neqb→ne, le-or-lt}
-use Rattle.etf.specs.Laws.Lists.{for-cons, in-nothing, any-not, any-one}
 use Rattle.etf.specs.Laws.Placements.{into-in, arrival-ge}
 use Rattle.etf.specs.Laws.Sound.{Sound}
 use Rattle.etf.specs.Laws.Ticks.{placement-once}

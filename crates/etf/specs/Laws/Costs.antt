@@ -9,12 +9,12 @@ use native.Mathlib.Omega.{arith}
 use native.Mathlib.Nat.{mul-le-mul}
 use lib.Dec.{ltb, eqb, lt→ltb, eqb-refl}
 use lib.ListN.{length, getD, List·getD-eq-default}
+use Rattle.base.specs.Choice.{pick}
+use Rattle.base.specs.Lists.{upto}
+use Rattle.base.specs.Laws.Tests.{both, pick-yes, le-or-lt}
+use Rattle.base.specs.Laws.Lists.{length-filter-most, map-upto-at, map-upto-length}
 use Rattle.job.specs.declared.Platform.{Platform}
-use Rattle.job.specs.Number.{pick}
-use Rattle.etf.specs.Lists.{upto}
 use Rattle.etf.specs.Topology.{binaryPlace, hypercubeHops, ringHops, hops, cost, square}
-use Rattle.etf.specs.Laws.Tests.{both, pick-yes, le-or-lt}
-use Rattle.etf.specs.Laws.Lists.{length-filter-most, map-upto-at, map-upto-length}
 
 -- ---- hops and costs
 

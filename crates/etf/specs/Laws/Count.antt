@@ -6,14 +6,14 @@ use mathlib.Core.List.{List, _∷_}
 use Prim.Native.Nat.{ℕ, zero, suc, _+_, _-_, _*_, _≤_, _<_}
 use native.Mathlib.Omega.{arith}
 use lib.Dec.{T as Holds}
-use Rattle.etf.specs.Lists.{_∈_, any}
+use Rattle.base.specs.Lists.{_∈_, any}
+use Rattle.base.specs.Laws.Tests.{either, not-both, fails, pick-yes, pick-no, le-or-lt}
+use Rattle.base.specs.Laws.Lists.{for-cons, in-nothing}
 use Rattle.etf.specs.Instance.{Instance, WellFormed, tasks, TaskChain}
 use Rattle.etf.specs.Schedule.{Placement, placed, placementOf, finish}
 use Rattle.etf.specs.Rule.{State, begin, complete, round, run, roundsIn, rounds}
-use Rattle.etf.specs.Laws.Tests.{either, not-both, fails, pick-yes, pick-no, le-or-lt}
-use Rattle.etf.specs.Laws.Lists.{for-cons, in-nothing}
 use Rattle.etf.specs.Laws.Placements.{placement-head, placed-head, placed-more, placed-less, into-in}
-use Rattle.etf.specs.Laws.Turn.{Ready, Put, Tick, Turn, rest, put, tick, stuck, turn}
+use Rattle.etf.specs.Laws.Turn.{Ready, NewPlacement, Tick, Turn, rest, put, tick, stuck, turn}
 use Rattle.etf.specs.Laws.Rounds.{complete-at, complete-of, none-stuck, enough-rounds}
 
 module _ (I : Instance) where
@@ -125,7 +125,7 @@ module _ (I : Instance) where
           go (inr h) = absurd (not-both (placed ps T) (R .fresh) (early T h))
 
       -- a round between two tasks places the next
-      still-put : (k : ℕ) (st : State) (u : Placement) → Still k st → Put I (st .clock) (st .placements) u
+      still-put : (k : ℕ) (st : State) (u : Placement) → Still k st → NewPlacement I (st .clock) (st .placements) u
           → Running k (record { clock = st .clock; placements = u ∷ st .placements })
       still-put k st u S K = record {
         early = λ T h. one T h (le-or-lt (suc T) k);

@@ -4,12 +4,12 @@ use mathlib.Core.Logic.{_⊎_, inl, inr}
 use mathlib.Core.List.{List, [], _∷_}
 use Prim.Native.Nat.{ℕ, zero, suc, _+_, _*_, _-_, _≤_, _<_}
 use native.Mathlib.Omega.{arith}
+use Rattle.base.specs.Lists.{_∈_, upto, greatest}
+use Rattle.base.specs.Laws.Tests.{le-or-lt}
+use Rattle.base.specs.Laws.Lists.{in-nothing, greatest-ge, greatest-at, upto-in}
 use Rattle.job.specs.Job.{Edge}
-use Rattle.etf.specs.Lists.{_∈_, upto, greatest}
 use Rattle.etf.specs.Instance.{Instance, WellFormed, tasks, into}
 use Rattle.etf.specs.Dearest.{EndsAt, greatestCost, Chain, price, dearestTo, dearest}
-use Rattle.etf.specs.Laws.Tests.{le-or-lt}
-use Rattle.etf.specs.Laws.Lists.{in-nothing, greatest-ge, greatest-at, upto-in}
 use Rattle.etf.specs.Laws.Placements.{into-of, into-in}
 
 module _ (I : Instance) where

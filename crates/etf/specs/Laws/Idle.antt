@@ -7,14 +7,15 @@ use mathlib.Core.List.{List}
 use Prim.Native.Nat.{ℕ, zero, suc, _+_, _-_, _≤_, _<_}
 use native.Mathlib.Omega.{arith}
 use lib.Dec.{T as Holds}
-use Rattle.job.specs.Number.{pick}
-use Rattle.etf.specs.Lists.{_∈_, upto}
+use Rattle.base.specs.Choice.{pick}
+use Rattle.base.specs.Lists.{_∈_, upto}
+use Rattle.base.specs.Rows.{one-if, sum}
+use Rattle.base.specs.Laws.Tests.{either, not-both, not-not, le-or-lt}
+use Rattle.base.specs.Laws.Lists.{any-of, any-one, filter-in, filter-of, upto-in, upto-of}
+use Rattle.base.specs.Laws.Sums.{one-if-most, one-if-no, sum-le, sum-same, sum-less, sum-each, sum-stretch}
 use Rattle.etf.specs.Instance.{Instance}
 use Rattle.etf.specs.Schedule.{Placement, finish}
 use Rattle.etf.specs.Cover.{busy, idle, someIdle, latestIdleTick}
-use Rattle.etf.specs.Laws.Tests.{either, not-both, not-not, le-or-lt}
-use Rattle.etf.specs.Laws.Lists.{any-of, any-one, filter-in, filter-of, upto-in, upto-of}
-use Rattle.etf.specs.Laws.Sums.{one-if, one-if-most, one-if-no, sum, sum-le, sum-same, sum-less, sum-each, sum-stretch}
 use Rattle.etf.specs.Laws.Placements.{busy-in}
 use Rattle.etf.specs.Laws.Ticks.{idlers, idlers-sum}
 
@@ -44,12 +45,12 @@ module _ (I : Instance) (ps : List Placement) where
 
   -- what `latestIdleTick` gives
   pub data LatestIdleTick (s : ℕ) : Option ℕ → Type 0 where
-    never : ((t : ℕ) → t < s → Holds (not (someIdle I ps t))) → LatestIdleTick s none
+    no-tick : ((t : ℕ) → t < s → Holds (not (someIdle I ps t))) → LatestIdleTick s none
     at : (t : ℕ) → t < s → Holds (someIdle I ps t) → ((r : ℕ) → t < r → r < s → Holds (not (someIdle I ps r))) → LatestIdleTick s (some t)
 
   pub latest-idle-tick : (s : ℕ) → LatestIdleTick s (latestIdleTick I ps s)
   unfolding latestIdleTick
-  latest-idle-tick zero = never (λ t h. absurd (omega arith))
+  latest-idle-tick zero = no-tick (λ t h. absurd (omega arith))
   latest-idle-tick (suc s) = go (someIdle I ps s) refl (latestIdleTick I ps s) (latest-idle-tick s)
     where
       -- tick s is not short, nor is t where that is before s
@@ -60,7 +61,7 @@ module _ (I : Instance) (ps : List Placement) where
 
       go : (b : Bool) → someIdle I ps s ≡ b → (o : Option ℕ) → LatestIdleTick s o → LatestIdleTick (suc s) (pick b (some s) o)
       go true e o L = at s (omega arith) (subst Holds (sym e) tt) (λ r a b. absurd (omega arith))
-      go false e o (never z) = never (λ t h. up t e (z t) (le-or-lt (suc t) s) h)
+      go false e o (no-tick z) = no-tick (λ t h. up t e (z t) (le-or-lt (suc t) s) h)
       go false e o (at t a b z) = at t (omega arith) b (λ r c d. up r e (z r c) (le-or-lt (suc r) s) d)
 
   -- ---- idle ticks
@@ -118,4 +119,4 @@ module _ (I : Instance) (ps : List Placement) where
   none-idle s e = go (rw e at (latest-idle-tick s))
     where
       go : LatestIdleTick s none → idle-before s ≤ 0
-      go (never z) = omega (arith, sum-each s 0, sum-le s (idlers I ps) (λ t. 0) (λ t h. idlers-none t (z t h)))
+      go (no-tick z) = omega (arith, sum-each s 0, sum-le s (idlers I ps) (λ t. 0) (λ t h. idlers-none t (z t h)))

@@ -4,15 +4,15 @@ use Prim.Native.Nat.{ℕ, _≤_, _<_}
 use native.Mathlib.Omega.{arith}
 use native.Mathlib.Nat.{mul-le-mul}
 use lib.ListN.{length}
+use Rattle.base.specs.Lists.{_∈_, upto, greatest}
+use Rattle.base.specs.Laws.Lists.{upto-in, upto-of, place}
 use Rattle.job.specs.declared.Platform.{Platform}
 use Rattle.job.specs.Job.{Edge, Job}
 use Rattle.job.specs.Accepted.{Accepted, edgeAt}
-use Rattle.etf.specs.Lists.{_∈_, upto, greatest}
 use Rattle.etf.specs.Instance.{WellFormed, tasks, duration, messageTime}
 use Rattle.etf.specs.Topology.{cost}
 use Rattle.etf.specs.Dearest.{greatestCost}
 use Rattle.etf.specs.OfJob.{instance}
-use Rattle.etf.specs.Laws.Lists.{upto-in, upto-of, place}
 use Rattle.etf.specs.Laws.Costs.{cost-most, cost-self}
 
 -- what holds of each edge of a job by its place holds of each edge

@@ -6,14 +6,14 @@ use mathlib.Core.List.{List, [], _∷_}
 use Prim.Native.Nat.{ℕ, _≤_, _<_}
 use lib.Dec.{eqb, eqb→eq}
 use lib.Dec.{T as Holds}
+use Rattle.base.specs.Lists.{_∈_, here, there, any}
+use Rattle.base.specs.Laws.Tests.{either, fails, both, first, second, or-right, or-cases, pick-yes, pick-no, eq→eqb, neqb→ne}
+use Rattle.base.specs.Laws.Lists.{any-of, any-one, filter-in, filter-of, greatest-ge, greatest-at, greatest-same}
 use Rattle.job.specs.Job.{Edge}
-use Rattle.etf.specs.Lists.{_∈_, here, there, any}
 use Rattle.etf.specs.Instance.{Instance, duration, into}
 use Rattle.etf.specs.Schedule.{Placement, placed, placementOf, finish, messageTimeTo, reach, arrival}
 use Rattle.etf.specs.Cover.{running, busy}
-use Rattle.etf.specs.Laws.Tests.{either, fails, both, first, second, or-right, or-cases, pick-yes, pick-no, eq→eqb, neqb→ne}
-use Rattle.etf.specs.Laws.Lists.{any-of, any-one, filter-in, filter-of, greatest-ge, greatest-at, greatest-same}
-use Rattle.etf.specs.Laws.Sums.{running-in}
+use Rattle.etf.specs.Laws.Running.{running-in}
 
 -- ---- the placement of a task
 

@@ -9,14 +9,15 @@ use native.Mathlib.Omega.{arith}
 use lib.Dec.{ltb, eqb, nltb→le, eqb→eq}
 use lib.Dec.{T as Holds}
 use lib.ListN.{length}
-use Rattle.etf.specs.Lists.{_∈_, here, there, upto, filter}
+use Rattle.base.specs.Lists.{_∈_, here, there, upto, filter}
+use Rattle.base.specs.Laws.Tests.{either, not-both, fails, pick-yes, pick-no, neqb→ne, le-or-lt}
+use Rattle.base.specs.Laws.Lists.{in-nothing, greatest-ge, greatest-at, upto-in, upto-of, map-of, Best, nothing, found, best-is}
+use Rattle.base.specs.Laws.Lists.{by-greatest}
 use Rattle.etf.specs.Instance.{Instance, WellFormed, tasks}
 use Rattle.etf.specs.Schedule.{Placement, placed, placementOf, finish, end, scheduleOf, byTask}
 use Rattle.etf.specs.Rule.{begin, run, planned}
 use Rattle.etf.specs.Cover.{FinishesLast, lastTask}
 use Rattle.etf.specs.Checker.{Apart}
-use Rattle.etf.specs.Laws.Tests.{either, not-both, fails, pick-yes, pick-no, neqb→ne, le-or-lt}
-use Rattle.etf.specs.Laws.Lists.{in-nothing, greatest-ge, greatest-at, upto-in, upto-of, map-of, Best, nothing, found, best-is, by-greatest}
 use Rattle.etf.specs.Laws.Placements.{placed-head, placed-more, placed-less, placement-of}
 use Rattle.etf.specs.Laws.Sound.{Once, NewerLater, Sound, sound-start, sound-run}
 use Rattle.etf.specs.Laws.Rounds.{all-placed}

@@ -8,15 +8,16 @@ use native.Mathlib.Omega.{arith}
 use native.Mathlib.Nat.{zero-add, suc-add}
 use lib.Dec.{leb, ltb, eqb, ltb→lt, lt→ltb, le→leb}
 use lib.Dec.{T as Holds}
-use Rattle.etf.specs.Lists.{_∈_, here, there, upto}
+use Rattle.base.specs.Lists.{_∈_, here, there, upto}
+use Rattle.base.specs.Rows.{one-if, sum}
+use Rattle.base.specs.Laws.Tests.{either, not-both, not-not, fails, or-right, pick-yes, le-or-lt}
+use Rattle.base.specs.Laws.Lists.{all-of, all-at, upto-in, upto-of}
+use Rattle.base.specs.Laws.Sums.{one-if-yes, one-if-no, one-if-le, one-if-most, sum-le, sum-less, sum-ge, sum-each}
 use Rattle.etf.specs.Instance.{Instance, WellFormed, tasks}
 use Rattle.etf.specs.Schedule.{Placement, placed, placementOf, finish}
 use Rattle.etf.specs.Rule.{State, begin, free, complete, round, run, planned}
-use Rattle.etf.specs.Laws.Tests.{either, not-both, not-not, fails, or-right, pick-yes, le-or-lt}
-use Rattle.etf.specs.Laws.Lists.{all-of, all-at, upto-in, upto-of}
-use Rattle.etf.specs.Laws.Sums.{one-if, one-if-yes, one-if-no, one-if-le, one-if-most, sum, sum-le, sum-less, sum-ge, sum-each}
 use Rattle.etf.specs.Laws.Placements.{placed-head, placed-more, placement-of, into-of}
-use Rattle.etf.specs.Laws.Turn.{Ready, Put, Turn, rest, put, tick, stuck, turn}
+use Rattle.etf.specs.Laws.Turn.{Ready, NewPlacement, Turn, rest, put, tick, stuck, turn}
 
 module _ (I : Instance) where
   -- the number of tasks that are not placed
@@ -39,7 +40,7 @@ module _ (I : Instance) where
   one-not : (a b : Bool) → (Holds b → Holds a) → one-if (not a) ≤ one-if (not b)
   one-not a b h = one-if-le (not a) (not b) (λ k. fails b (λ q. not-both a k (h q)))
 
-  pub left-put : (cm : ℕ) (ps : List Placement) (u : Placement) → Put I cm ps u → left (u ∷ ps) < left ps
+  pub left-put : (cm : ℕ) (ps : List Placement) (u : Placement) → NewPlacement I cm ps u → left (u ∷ ps) < left ps
   unfolding left
   left-put cm ps u K =
       sum-less (tasks I) (u .task) (λ T. one-if (not (placed (u ∷ ps) T))) (λ T. one-if (not (placed ps T)))

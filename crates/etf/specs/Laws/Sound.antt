@@ -8,16 +8,16 @@ use Prim.Native.Nat.{ℕ, zero, suc, _≤_, _<_, max}
 use native.Mathlib.Omega.{arith}
 use lib.Dec.{leb, eqb, eqb→eq}
 use lib.Dec.{T as Holds}
+use Rattle.base.specs.Lists.{_∈_, all}
+use Rattle.base.specs.Laws.Tests.{either, not-both, fails, second, neqb→ne, le-or-lt}
+use Rattle.base.specs.Laws.Lists.{for-cons, in-nothing}
 use Rattle.job.specs.Job.{Edge}
-use Rattle.etf.specs.Lists.{_∈_, all}
 use Rattle.etf.specs.Instance.{Instance, WellFormed, tasks, into}
 use Rattle.etf.specs.Schedule.{Placement, placed, placementOf, finish, arrival}
 use Rattle.etf.specs.Rule.{State, free, round, run}
 use Rattle.etf.specs.Cover.{busy}
-use Rattle.etf.specs.Laws.Tests.{either, not-both, fails, second, neqb→ne, le-or-lt}
-use Rattle.etf.specs.Laws.Lists.{for-cons, in-nothing}
 use Rattle.etf.specs.Laws.Placements.{placement-head, placement-tail, placed-more, placed-less, placement-of, arrival-ge, arrival-same, busy-in, busy-more}
-use Rattle.etf.specs.Laws.Turn.{taken-by, free-of, Ready, Put, Tick, Turn, rest, put, tick, stuck, turn}
+use Rattle.etf.specs.Laws.Turn.{taken-by, free-of, Ready, NewPlacement, Tick, Turn, rest, put, tick, stuck, turn}
 
 -- each task stands in the list at most once
 abbrev pub Once : List Placement → Type 0
@@ -105,7 +105,7 @@ module _ (I : Instance) where
 
   -- ---- a placing
 
-  module _ (W : WellFormed I) (cm : ℕ) (ps : List Placement) (u : Placement) (S : Sound cm ps) (K : Put I cm ps u) where
+  module _ (W : WellFormed I) (cm : ℕ) (ps : List Placement) (u : Placement) (S : Sound cm ps) (K : NewPlacement I cm ps u) where
     -- u's task is none of those placed before
     other : (T : ℕ) → Holds (placed ps T) → ¬ (u .task ≡ T)
     other T h e = not-both (placed ps T) (subst (λ t. Holds (not (placed ps t))) e (K .task-ready .fresh)) h

@@ -8,14 +8,16 @@ use native.Mathlib.Omega.{arith}
 use lib.Dec.{eqb, eqb→eq}
 use lib.Dec.{T as Holds}
 use lib.ListN.{length}
-use Rattle.etf.specs.Lists.{_∈_, here, there}
+use Rattle.base.specs.Lists.{_∈_, here, there}
+use Rattle.base.specs.Rows.{one-if, sum}
+use Rattle.base.specs.Laws.Tests.{either, not-both, fails, both, first, second, eq→eqb}
+use Rattle.base.specs.Laws.Sums.{one-if-yes, one-if-no, one-if-le, one-if-most, one-if-of, length-filter, sum-le, sum-same, sum-add}
+use Rattle.base.specs.Laws.Sums.{sum-each, sum-swap, sum-only, sum-at-most-one, sum-ge}
 use Rattle.etf.specs.Instance.{Instance, tasks, duration}
 use Rattle.etf.specs.Schedule.{Placement, placed, placementOf}
 use Rattle.etf.specs.Cover.{running, busy, idle}
 use Rattle.etf.specs.Ideal.{Ideal}
-use Rattle.etf.specs.Laws.Tests.{either, not-both, fails, both, first, second, eq→eqb}
-use Rattle.etf.specs.Laws.Sums.{one-if, one-if-yes, one-if-no, one-if-le, one-if-most, one-if-of, running-of, sum-running, length-filter}
-use Rattle.etf.specs.Laws.Sums.{sum, sum-le, sum-same, sum-add, sum-each, sum-swap, sum-only, sum-at-most-one, sum-ge}
+use Rattle.etf.specs.Laws.Running.{running-of, sum-running}
 use Rattle.etf.specs.Laws.Placements.{placement-head, placement-tail, placed-in, busy-of}
 use Rattle.etf.specs.Laws.Sound.{Once, Sound}
 

@@ -5,15 +5,15 @@ use mathlib.Core.List.{List, [], _∷_}
 use Prim.Native.Nat.{ℕ, zero, suc, _+_, _*_, _≤_, _<_}
 use native.Mathlib.Omega.{arith}
 use native.Mathlib.Nat.{mul-le-mul-right}
+use Rattle.base.specs.Lists.{_∈_}
+use Rattle.base.specs.Laws.Tests.{le-or-lt}
+use Rattle.base.specs.Laws.Lists.{for-cons, in-nothing}
 use Rattle.job.specs.Job.{Edge}
-use Rattle.etf.specs.Lists.{_∈_}
 use Rattle.etf.specs.Instance.{Instance, WellFormed, tasks, duration, messageTime}
 use Rattle.etf.specs.Schedule.{Placement, placementOf, finish, messageTimeTo, arrival, end}
 use Rattle.etf.specs.Rule.{State, begin, round, run, planned}
-use Rattle.etf.specs.Laws.Tests.{le-or-lt}
-use Rattle.etf.specs.Laws.Lists.{for-cons, in-nothing}
 use Rattle.etf.specs.Laws.Placements.{placement-of, into-of, arrival-at}
-use Rattle.etf.specs.Laws.Turn.{Put, Tick, Turn, rest, put, tick, stuck, turn}
+use Rattle.etf.specs.Laws.Turn.{NewPlacement, Tick, Turn, rest, put, tick, stuck, turn}
 use Rattle.etf.specs.Laws.Sound.{Opened, Sound, same-arrival, sound-start, sound-round, sound-run}
 use Rattle.etf.specs.Laws.Rounds.{left, left-start, left-put}
 use Rattle.etf.specs.Laws.Planned.{home, last-task}
@@ -53,7 +53,7 @@ module _ (I : Instance) (W : WellFormed I) (D B : ℕ)
     arrive-by = λ u h. absurd (in-nothing h);
   }
 
-  low-put : (cm : ℕ) (ps : List Placement) (u : Placement) → Sound I cm ps → Low cm ps → Put I cm ps u → Low cm (u ∷ ps)
+  low-put : (cm : ℕ) (ps : List Placement) (u : Placement) → Sound I cm ps → Low cm ps → NewPlacement I cm ps u → Low cm (u ∷ ps)
   low-put cm ps u S L K = record {
     count = suc (L .count);
     counted = omega (arith, L .counted, left-put I cm ps u K);

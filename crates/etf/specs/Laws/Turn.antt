@@ -8,14 +8,15 @@ use Prim.Native.Nat.{ℕ, _≤_, _<_, max}
 use native.Mathlib.Omega.{arith}
 use lib.Dec.{leb, ltb, eqb, leb→le, le→leb, nleb→lt, ltb→lt, lt→ltb, nltb→le, eqb→eq}
 use lib.Dec.{T as Holds}
-use Rattle.job.specs.Number.{pick}
+use Rattle.base.specs.Choice.{pick}
+use Rattle.base.specs.Lists.{_∈_, upto, all, filter, best}
+use Rattle.base.specs.Laws.Tests.{both, first, second, or-cases, neqb→ne}
+use Rattle.base.specs.Laws.Lists.{all-of, all-at, all-not, filter-in, filter-of, upto-in, upto-of, Best, nothing, found, best-is, by-least}
+use Rattle.base.specs.Laws.Lists.{flatMap-in, flatMap-of, map-in, map-of}
 use Rattle.job.specs.Job.{Edge}
-use Rattle.etf.specs.Lists.{_∈_, upto, all, filter, best}
 use Rattle.etf.specs.Instance.{Instance, WellFormed, tasks, into}
 use Rattle.etf.specs.Schedule.{Placement, placed, placementOf, finish, arrival}
 use Rattle.etf.specs.Rule.{State, atMost, move, settle, nextMoment, free, finished, ready, pair, pairs, choice, complete, round}
-use Rattle.etf.specs.Laws.Tests.{both, first, second, or-cases, neqb→ne}
-use Rattle.etf.specs.Laws.Lists.{all-of, all-at, all-not, filter-in, filter-of, upto-in, upto-of, Best, nothing, found, best-is, by-least, flatMap-in, flatMap-of, map-in, map-of}
 
 -- one pair starts sooner than another
 abbrev sooner : Placement → Placement → Bool
@@ -80,7 +81,7 @@ module _ (I : Instance) where
   -- ---- a round
 
   -- what is known when the round places u
-  pub record Put (cm : ℕ) (ps : List Placement) (u : Placement) : Type 0 where
+  pub record NewPlacement (cm : ℕ) (ps : List Placement) (u : Placement) : Type 0 where
     pub task-ready : Ready cm ps (u .task)
     pub processor-below : u .processor < I .processors
     pub processor-free : Holds (free I cm ps (u .processor))
@@ -99,7 +100,7 @@ module _ (I : Instance) where
   -- the ways in which a round goes
   pub data Turn (cm : ℕ) (ps : List Placement) : State → Type 0 where
     rest : Holds (complete I ps) → Turn cm ps (record { clock = cm; placements = ps })
-    put : (u : Placement) → Put cm ps u → Turn cm ps (record { clock = cm; placements = u ∷ ps })
+    put : (u : Placement) → NewPlacement cm ps u → Turn cm ps (record { clock = cm; placements = u ∷ ps })
     tick : (x : ℕ) → Tick cm ps x → Turn cm ps (record { clock = x; placements = ps })
     stuck : ((v : Placement) → v ∈ ps → cm < finish I v → ⊥)
         → ((T P : ℕ) → Ready cm ps T → P < I .processors → Holds (free I cm ps P) → ⊥)
@@ -146,11 +147,11 @@ module _ (I : Instance) where
 
     -- the chosen pair, if its start is at most NM, makes a placing
     put-of : (cm : ℕ) (ps : List Placement) (u : Placement) → u ∈ pairs I cm ps → ((v : Placement) → v ∈ pairs I cm ps → u .start ≤ v .start)
-        → ((v : Placement) → v ∈ ps → cm < finish I v → u .start ≤ finish I v) → Put cm ps u
+        → ((v : Placement) → v ∈ ps → cm < finish I v → u .start ≤ finish I v) → NewPlacement cm ps u
     unfolding pair
     put-of cm ps u h le k =
         let z = pair-of cm ps u h in
-        subst (Put cm ps) (sym (z .5)) record {
+        subst (NewPlacement cm ps) (sym (z .5)) record {
           task-ready = z .2;
           processor-below = z .3;
           processor-free = z .4;

@@ -5,16 +5,16 @@ use mathlib.Core.List.{List}
 use Prim.Native.Nat.{ℕ, zero, suc, _+_, _*_, _≤_, _<_}
 use native.Mathlib.Omega.{arith}
 use native.Mathlib.Nat.{mul-le-mul-left}
+use Rattle.base.specs.Lists.{_∈_, upto, greatest}
+use Rattle.base.specs.Laws.Lists.{greatest-ge, upto-in}
+use Rattle.base.specs.Laws.Sums.{sum-stretch, sum-grows}
 use Rattle.job.specs.Job.{Edge}
-use Rattle.etf.specs.Lists.{_∈_, upto, greatest}
 use Rattle.etf.specs.Instance.{Instance, WellFormed, tasks, duration, into, messageTime}
 use Rattle.etf.specs.Schedule.{Placement, placementOf, finish, messageTimeTo, reach}
 use Rattle.etf.specs.Rule.{planned}
 use Rattle.etf.specs.Cover.{Walk, stops, goes}
 use Rattle.etf.specs.Dearest.{greatestCost, dearestTo, dearest}
 use Rattle.etf.specs.Ideal.{Ideal}
-use Rattle.etf.specs.Laws.Lists.{greatest-ge, upto-in}
-use Rattle.etf.specs.Laws.Sums.{sum-stretch, sum-grows}
 use Rattle.etf.specs.Laws.Placements.{into-of}
 use Rattle.etf.specs.Laws.Ticks.{idlers}
 use Rattle.etf.specs.Laws.Idle.{idle-of, idle-before, idlers-most, idlers-less, idle-until, none-idle}

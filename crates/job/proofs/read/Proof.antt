@@ -9,21 +9,22 @@ use borrow.Author.Tests.{le-ltb, ne-eqb}
 use lib.Dec.{eqb}
 use lib.ListN.{length, getD, take, drop, length-drop}
 use lib.Seq.{length-take-le}
+use Rattle.base.specs.Choice.{pick}
+use Rattle.base.specs.Lists.{values}
+use Rattle.base.specs.Laws.Values.{length-values, map-values, values-same, values-take}
 use Rattle.job.specs.declared.Reading.{Reading}
 use Rattle.job.specs.declared.Verdict.the-variants.{Counts}
 use Rattle.job.specs.declared.parse.Pass.{Pass}
 use Rattle.job.specs.declared.parse.Pass.the-variants.{Count, Trouble}
-use Rattle.job.specs.Number.{pick}
 use Rattle.job.specs.Job.{Edge, Job}
 use Rattle.job.specs.Record.{Kind, rack, step, link, end, kindOf, bodyLength, empty, noRack, stands, full, inRange, endsRight, inOrder}
 use Rattle.job.specs.Read.{accepted, refused, after, judged, records, readJob, readingOf}
-use Rattle.job.specs.Write.{values, edgeHeld}
+use Rattle.job.specs.Write.{edgeHeld}
 use Rattle.job.specs.Pass.{StepsPassed, LinksPassed, jobOf, platformAt, misplacedNumber, troubleOf}
 use Rattle.job.specs.Laws.Judged.{at-record}
 use Rattle.job.specs.Laws.Kinds.{kindByte, misplaced-at}
 use Rattle.job.specs.Laws.Lists.{empty-is, empty-not}
-use Rattle.job.specs.Laws.Spare.{filled}
-use Rattle.job.specs.Laws.Values.{length-values, map-values, values-same, values-take}
+use Rattle.job.specs.Laws.Spare.{is-padded}
 use borrow.Author.Needs.{needs}
 use Rattle.job.proofs.read.Statement.{statement}
 use Rattle.job.proofs.read.Tie as tie
@@ -130,10 +131,10 @@ module _ (file : List ℕ) (some : 1 ≤ getD file 1 0) (begins : readJob file �
             column (λ e. e .from) from (x .3) (λ i. refl),
             column (λ e. e .to) to (x .4) (λ i. refl),
             column (λ e. e .count) counts (x .5) (λ i. refl),
-            ← filled 256 m durations (s .3) (s .0) (s .4),
-            ← filled 1024 l from (x .3) (x .0) (x .6),
-            ← filled 1024 l to (x .4) (x .0) (x .7),
-            ← filled 1024 l counts (x .5) (x .0) (x .8),
+            ← is-padded 256 m durations (s .3) (s .0) (s .4),
+            ← is-padded 1024 l from (x .3) (x .0) (x .6),
+            ← is-padded 1024 l to (x .4) (x .0) (x .7),
+            ← is-padded 1024 l counts (x .5) (x .0) (x .8),
           )
 
 rack-requires : tie.Need-rack-requires

@@ -6,13 +6,13 @@ use borrow.Author.Needs.{needs}
 use borrow.Author.Tests.{lt-ltb, le-ltb}
 use lib.ListN.{length, getD, drop}
 use lib.Seq.{sets}
+use Rattle.base.specs.Laws.Values.{length-values}
+use Rattle.base.specs.Laws.Stored.{sets-front}
 use Rattle.job.specs.declared.Platform.{Platform}
 use Rattle.job.specs.declared.Written.the-variants.{Length, Refused}
 use Rattle.job.specs.Job.{Job}
 use Rattle.job.specs.Read.{Answer, accepted, refused, readJob}
 use Rattle.job.specs.Write.{fileOf, fileLength, edgeHeld, heldJob, roomFor, writeAnswer, writeOut, WrittenAs}
-use Rattle.job.specs.Laws.Values.{length-values}
-use Rattle.job.specs.Laws.Stored.{sets-front}
 use Rattle.job.specs.Laws.Written.{file-size}
 use Rattle.job.proofs.write.Statement.{statement}
 use Rattle.job.proofs.write.Tie as tie

@@ -7,14 +7,14 @@ use native.Mathlib.Omega.{arith}
 use lib.Dec.{eqb}
 use lib.ListN.{length, getD, take, length-append}
 use lib.Seq.{take-at, drop-at}
+use Rattle.base.specs.Number.{number, bytes}
+use Rattle.base.specs.Laws.Number.{length-bytes, number-bytes}
 use Rattle.job.specs.declared.Platform.{Platform}
-use Rattle.job.specs.Number.{number, bytes}
 use Rattle.job.specs.Job.{Edge, blank}
 use Rattle.job.specs.Record.{kindOf, bodyLength, stands, full, inRange, endsRight, inOrder, platformIn, durationIn, edgeIn}
 use Rattle.job.specs.Read.{Answer, accepted, refused, after, judged, records}
 use Rattle.job.specs.Write.{rackBytes, stepBytes, linkBytes}
 use Rattle.job.specs.Pass.{jobOf, key, edge, firstOf, platformTrouble, stepTrouble, linkTrouble, stepsTrouble, linksTrouble}
-use Rattle.job.specs.Laws.Number.{length-bytes, number-bytes}
 use Rattle.job.specs.Laws.Judged.{skip, passOr, rack-at, step-at, link-at, Above, above-more}
 
 -- the first of two troubles is met first

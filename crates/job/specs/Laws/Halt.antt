@@ -11,18 +11,18 @@ use borrow.Author.Tests.{ltb-true}
 use lib.Dec.{ltb}
 use lib.ListN.{length, getD, drop, length-drop}
 use lib.Seq.{drop-cons, drop-drop}
+use Rattle.base.specs.Choice.{pick}
+use Rattle.base.specs.Laws.Tests.{impossible}
 use Rattle.job.specs.declared.Written.{Written}
 use Rattle.job.specs.declared.Written.the-variants.{Length, Refused}
-use Rattle.job.specs.Number.{pick}
 use Rattle.job.specs.Job.{Job, blank}
 use Rattle.job.specs.Record.{Kind, rack, step, link, end, kindOf, bodyLength, added}
 use Rattle.job.specs.Read.{Answer, accepted, refused, after, records, readJob}
 use Rattle.job.specs.Write.{roomFor}
-use Rattle.job.specs.Cause.{Cause, Fits, Reached, start, next, cut, unknown, misplaced, out-of-range, too-many, bad-ends, not-above, bytes-after}
+use Rattle.job.specs.Cause.{Cause, Untroubled, Reached, start, next, cut, unknown, misplaced, out-of-range, too-many, bad-ends, not-above, bytes-after}
 use Rattle.job.specs.Laws.Judged.{skip, whole}
 use Rattle.job.specs.Laws.Turn.{Reads, no-more, halted, past, closed, reads}
 use Rattle.job.specs.Laws.Lists.{at-place}
-use Rattle.job.specs.Laws.Tests.{never}
 
 -- after a record without trouble that has a body, what is left to judge stands past the body
 passed : (k : Kind) (rest : List ℕ) (j : Job) (more : ℕ → Job → Answer) → 1 ≤ bodyLength k → after k rest j more ≡ more (bodyLength k) (added j k rest)
@@ -32,7 +32,7 @@ passed step rest j more h = refl
 passed link rest j more h = refl
 passed end rest j more h = let n : ⊥ = omega arith in absurd n
 
-pub onward : (b : ℕ) (rest : List ℕ) (j : Job) (k : Kind) → kindOf b ≡ some k → 1 ≤ bodyLength k → Fits rest j k →
+pub onward : (b : ℕ) (rest : List ℕ) (j : Job) (k : Kind) → kindOf b ≡ some k → 1 ≤ bodyLength k → Untroubled rest j k →
     records (b ∷ rest) 0 j ≡ records (drop (bodyLength k) rest) 0 (added j k rest)
 unfolding records
 onward b rest j k e h f = rw e (whole k rest j (records rest) (f .placed) (f .room) (f .whole)
@@ -59,9 +59,9 @@ halt file n (halted {b} {rest} {j} {n = m} c) at q r e =
 halt file n (past {b} {rest} {j} k t h f s) at q r e =
     let p = at-place file at b rest q in
     let t′ : kindOf (getD file at 0) ≡ some k = rw (p .1) t in
-    let f′ : Fits (drop (suc at) file) j k = rw (p .2) f in
+    let f′ : Untroubled (drop (suc at) file) j k = rw (p .2) f in
     halt file n s (suc at + bodyLength k) (rw (← drop-drop, p .2)) (rw (p .2) at (next k r (p .0) t′ h f′)) e
-halt file n (closed t f h) at q r e = let z : false ≡ true = cc in never z
+halt file n (closed t f h) at q r e = let z : false ≡ true = cc in impossible z
 
 pub halts-at : (file : List ℕ) (n : ℕ) → readJob file ≡ refused n → Halt file n
 unfolding readJob

@@ -10,12 +10,12 @@ use borrow.Author.Tests.{lt-ltb, le-ltb, le-leb, lt-leb, eq-eqb, ne-eqb}
 use lib.Dec.{ltb, leb, eqb, leb·zero}
 use lib.ListN.{length, getD, drop, drop-of-length-le}
 use lib.Seq.{drop-cons, drop-drop}
+use Rattle.base.specs.Choice.{pick}
+use Rattle.base.specs.Laws.Tests.{lt-or-ge}
 use Rattle.job.specs.declared.Platform.{Platform}
-use Rattle.job.specs.Number.{pick}
 use Rattle.job.specs.Job.{Edge, Job, blank}
 use Rattle.job.specs.Record.{Kind, rack, step, link, kindOf, bodyLength, noRack, stands, full, inRange, endsRight, inOrder, added, platformIn, durationIn, edgeIn, joins, countInRange, platformInRange, durationInRange, rises, aboveLast}
 use Rattle.job.specs.Read.{Answer, refused, after, judged, records}
-use Rattle.job.specs.Laws.Number.{lt-or-ge}
 use Rattle.job.specs.Laws.Tests.{platform-facts}
 use Rattle.job.specs.Pass.{jobOf, key, platformTrouble, stepTrouble, linkTrouble}
 

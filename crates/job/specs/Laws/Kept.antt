@@ -7,13 +7,14 @@ use Prim.Native.Nat.{ℕ, _≤_}
 use native.Mathlib.Omega.{arith}
 use borrow.Author.Tests.{leb-false, eqb-true}
 use lib.ListN.{length, length-append}
+use Rattle.base.specs.Laws.Tests.{impossible, and-true}
 use Rattle.job.specs.Job.{Edge, Job, blank}
 use Rattle.job.specs.Record.{Kind, rack, step, link, end, durationIn, edgeIn, empty, noRack, stands, full, platformInRange, durationInRange, countInRange, inRange, joins, endsRight, inOrder, added}
 use Rattle.job.specs.Read.{Answer, accepted}
-use Rattle.job.specs.Cause.{Fits}
+use Rattle.job.specs.Cause.{Untroubled}
 use Rattle.job.specs.Laws.Turn.{Reads, no-more, halted, past, closed}
 use Rattle.job.specs.Laws.Lists.{Each, each-more, Rising, rising-more}
-use Rattle.job.specs.Laws.Tests.{never, both, platform-facts}
+use Rattle.job.specs.Laws.Tests.{platform-facts}
 
 -- what stands past the last edge
 abbrev pub noEdge : Edge
@@ -39,11 +40,11 @@ none-in [] e = refl
 none-in (x ∷ l) e = cc
 
 some-in : {A : Type 0} (l : List A) → not (empty l) ≡ true → 1 ≤ length l
-some-in [] e = never e
+some-in [] e = impossible e
 some-in (x ∷ l) e = omega arith
 
 -- each record that fits keeps it so
-with-rack : (rest : List ℕ) → Fits rest blank rack → Kept (added blank rack rest)
+with-rack : (rest : List ℕ) → Untroubled rest blank rack → Kept (added blank rack rest)
 unfolding added inRange blank
 with-rack rest f = record {
   platform-right = f .ranges;
@@ -55,10 +56,10 @@ with-rack rest f = record {
   edges-rise = λ i h. let n : ⊥ = omega arith in absurd n;
 }
 
-with-step : (rest : List ℕ) (j : Job) → Kept j → Fits rest j step → Kept (added j step rest)
+with-step : (rest : List ℕ) (j : Job) → Kept j → Untroubled rest j step → Kept (added j step rest)
 unfolding added stands full inRange
 with-step rest j b f =
-    let z = none-in (j .edges) (both (not (noRack j)) (empty (j .edges)) (f .placed) .1) in
+    let z = none-in (j .edges) (and-true (not (noRack j)) (empty (j .edges)) (f .placed) .1) in
     record {
       platform-right = b .platform-right;
       few-tasks = simp length-append (omega (arith, leb-false 256 (length (j .tasks)) (f .room)));
@@ -69,7 +70,7 @@ with-step rest j b f =
       edges-rise = b .edges-rise;
     }
 
-with-link : (rest : List ℕ) (j : Job) → Kept j → Fits rest j link → Kept (added j link rest)
+with-link : (rest : List ℕ) (j : Job) → Kept j → Untroubled rest j link → Kept (added j link rest)
 unfolding added full inRange endsRight inOrder
 with-link rest j b f = record {
   platform-right = b .platform-right;
@@ -88,23 +89,23 @@ one-rack j b h =
     let n : ⊥ = omega (arith, platform-facts (j .platform) (b .platform-right)) in
     absurd n
 
-pub grown : (k : Kind) (rest : List ℕ) {j : Job} → SoFar j → Fits rest j k → SoFar (added j k rest)
+pub grown : (k : Kind) (rest : List ℕ) {j : Job} → SoFar j → Untroubled rest j k → SoFar (added j k rest)
 unfolding stands noRack blank added
 grown rack rest nothing f = begun (with-rack rest f)
-grown rack rest {j} (begun b) f = never (one-rack j b (f .placed))
-grown step rest nothing f = never (f .placed)
+grown rack rest {j} (begun b) f = impossible (one-rack j b (f .placed))
+grown step rest nothing f = impossible (f .placed)
 grown step rest {j} (begun b) f = begun (with-step rest j b f)
-grown link rest nothing f = never (f .placed)
+grown link rest nothing f = impossible (f .placed)
 grown link rest {j} (begun b) f = begun (with-link rest j b f)
 grown end rest s f = s
 
 ready : {j : Job} → SoFar j → stands j end ≡ true → Kept j × (1 ≤ length (j .tasks))
 unfolding stands blank
-ready nothing h = never h
+ready nothing h = impossible h
 ready {j} (begun b) h = (b, some-in (j .tasks) h)
 
 pub kept : {xs : List ℕ} {j : Job} {a : Answer} → Reads xs j a → SoFar j → (i : Job) → a ≡ accepted i → Kept i × (1 ≤ length (i .tasks))
-kept no-more s i e = let z : false ≡ true = cc in never z
-kept (halted c) s i e = let z : false ≡ true = cc in never z
+kept no-more s i e = let z : false ≡ true = cc in impossible z
+kept (halted c) s i e = let z : false ≡ true = cc in impossible z
 kept (past {rest = rest} k t h f r) s i e = kept r (grown k rest s f) i e
 kept (closed {j = j} t f h) s i e = let q : i ≡ j = cc in rw q (ready s (f .placed))

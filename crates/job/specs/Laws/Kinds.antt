@@ -8,12 +8,12 @@ use Prim.Native.Nat.{ℕ, _<_, _≤_}
 use native.Mathlib.Omega.{arith}
 use borrow.Author.Tests.{eqb-true, eqb-false, le-leb, lt-leb}
 use lib.Dec.{eqb, leb}
-use Rattle.job.specs.Number.{pick}
+use Rattle.base.specs.Choice.{pick}
+use Rattle.base.specs.Laws.Tests.{lt-or-ge}
 use Rattle.job.specs.Job.{Job}
 use Rattle.job.specs.Record.{Kind, rack, step, link, end, kindOf, stands}
 use Rattle.job.specs.Read.{Answer, refused, judged}
 use Rattle.job.specs.Pass.{misplacedNumber}
-use Rattle.job.specs.Laws.Number.{lt-or-ge}
 use Rattle.job.specs.Laws.Judged.{misplaced}
 
 -- the byte of a kind

@@ -5,15 +5,16 @@ use mathlib.Core.Bool.{Bool, true, false}
 use Prim.Native.Nat.{ℕ, zero, suc, _-_, _≤_, _<_}
 use native.Mathlib.Omega.{arith}
 use lib.ListN.{length, getD, drop, replicate, length-append, length-replicate, List·getD-map, List·getD-eq-default, length-map}
+use Rattle.base.specs.Laws.Lists.{zeros-at}
+use Rattle.base.specs.Laws.Tests.{impossible}
 use Rattle.job.specs.Job.{Edge}
 use Rattle.job.specs.Record.{empty, rises, aboveLast}
 use Rattle.job.specs.Read.{padded}
-use Rattle.job.specs.Laws.Tests.{never}
 
 -- what stands at the place where the rest of a list begins
 pub at-place : (l : List ℕ) (i b : ℕ) (rest : List ℕ) → drop i l ≡ b ∷ rest → (i < length l) × (getD l i 0 ≡ b) × (drop (suc i) l ≡ rest)
-at-place [] zero b rest e = let z : false ≡ true = cc in never z
-at-place [] (suc i) b rest e = let z : false ≡ true = cc in never z
+at-place [] zero b rest e = let z : false ≡ true = cc in impossible z
+at-place [] (suc i) b rest e = let z : false ≡ true = cc in impossible z
 at-place (x ∷ l) zero b rest e = (omega arith, cc, cc)
 at-place (x ∷ l) (suc i) b rest e = let r = at-place l i b rest e in (omega arith, r .1, r .2)
 
@@ -43,11 +44,6 @@ rising-more d (x ∷ y ∷ l) a h o (suc i) lt = rising-more d (y ∷ l) a (λ k
 pub padded-length : (n : ℕ) (xs : List ℕ) → length xs ≤ n → length (padded n xs) ≡ n
 unfolding padded
 padded-length n xs h = simp (length-append, length-replicate) (omega arith)
-
-pub zeros-at : (n i : ℕ) → getD {A = ℕ} (replicate n 0) i 0 ≡ 0
-zeros-at zero i = refl
-zeros-at (suc n) zero = refl
-zeros-at (suc n) (suc i) = zeros-at n i
 
 append-zeros : (xs : List ℕ) (n i : ℕ) → getD (xs ++ replicate n 0) i 0 ≡ getD xs i 0
 append-zeros [] n i = zeros-at n i

@@ -8,18 +8,19 @@ use native.Mathlib.Omega.{arith}
 use borrow.Author.Tests.{ltb-false}
 use lib.Dec.{eqb, ltb}
 use lib.ListN.{length, getD}
+use Rattle.base.specs.Choice.{pick}
+use Rattle.base.specs.Lists.{values}
+use Rattle.base.specs.Laws.Tests.{impossible}
+use Rattle.base.specs.Laws.Values.{length-values, each-value}
 use Rattle.job.specs.declared.Platform.{Platform}
 use Rattle.job.specs.declared.Written.the-variants.{Refused}
-use Rattle.job.specs.Number.{pick}
 use Rattle.job.specs.Job.{Edge, Job}
 use Rattle.job.specs.Record.{platformInRange, durationInRange, countInRange, joins}
 use Rattle.job.specs.Read.{Answer, accepted, refused, records, readJob}
-use Rattle.job.specs.Write.{stepBytes, linkBytes, fileOf, fileLength, values, edgeHeld, heldJob, Held, roomFor, writeAnswer}
+use Rattle.job.specs.Write.{stepBytes, linkBytes, fileOf, fileLength, edgeHeld, heldJob, Held, roomFor, writeAnswer}
 use Rattle.job.specs.Pass.{jobOf, edge, key, firstOf, platformTrouble, stepTrouble, linkTrouble, stepsTrouble, linksTrouble, JobJudged}
 use Rattle.job.specs.Laws.Judged.{passOr, passes, stops, rack-fits, above-none}
 use Rattle.job.specs.Laws.Encoded.{read-rack, read-steps, read-links, read-end, read-none, read-early}
-use Rattle.job.specs.Laws.Values.{length-values, each-value}
-use Rattle.job.specs.Laws.Tests.{never}
 use Rattle.job.specs.Laws.Halt.{room-refused}
 
 -- a trouble's number: none, or 3 to 7
@@ -67,7 +68,7 @@ past-trouble t n a (inr h) more e =
     omega arith
 
 never-refused : (j : Job) (n : ℕ) → accepted j ≡ refused n → (3 ≤ n) × (n ≤ 7)
-never-refused j n e = let z : false ≡ true = cc in never z
+never-refused j n e = let z : false ≡ true = cc in impossible z
 
 -- a job without tasks: the reader meets a link or the end where a step is due
 untasked : (p : Platform) (from to counts : List ℕ) (l : ℕ) → records (flatMap linkBytes (values (edgeHeld from to counts) 0 l) ++ (4 ∷ [])) 0 (jobOf p [] []) ≡ refused 3

@@ -11,11 +11,11 @@ use borrow.Author.Tests.{leb-false, lt-ltb, le-ltb, ne-eqb}
 use lib.Dec.{ltb}
 use lib.ListN.{length, take, length-append, length-take}
 use lib.Seq.{take-nil, take-take, getD-take}
-use Rattle.job.specs.Number.{pick}
+use Rattle.base.specs.Choice.{pick}
+use Rattle.base.specs.Laws.Tests.{lt-or-ge}
 use Rattle.job.specs.Job.{Job, blank}
 use Rattle.job.specs.Record.{Kind, rack, step, link, end, kindOf, bodyLength, empty, noRack, stands, full, inRange, endsRight, inOrder, added, platformIn, durationIn, edgeIn}
 use Rattle.job.specs.Read.{Answer, refused, after, judged, records, readJob}
-use Rattle.job.specs.Laws.Number.{lt-or-ge}
 use Rattle.job.specs.Laws.Judged.{misplaced, crowded}
 use Rattle.job.specs.Laws.Tests.{platform-facts}
 

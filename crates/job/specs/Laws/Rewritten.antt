@@ -9,18 +9,19 @@ use borrow.Author.Tests.{eqb-true, le-ltb}
 use lib.Dec.{eqb}
 use lib.ListN.{length, take, drop, take-append-drop}
 use lib.Seq.{length-take-le}
+use Rattle.base.specs.Number.{number, bytes, Bytes, none, more}
+use Rattle.base.specs.Laws.Tests.{impossible, and-true}
+use Rattle.base.specs.Laws.Number.{bytes-number}
+use Rattle.base.specs.Laws.Stored.{flat-append}
 use Rattle.job.specs.declared.Platform.{Platform}
 use Rattle.job.specs.declared.Written.the-variants.{Length}
-use Rattle.job.specs.Number.{number, bytes}
 use Rattle.job.specs.Job.{Edge, Job, blank}
 use Rattle.job.specs.Record.{Kind, rack, step, link, end, bodyLength, noRack, stands, inRange, added, platformIn, durationIn, edgeIn}
 use Rattle.job.specs.Read.{Answer, accepted, readJob}
 use Rattle.job.specs.Write.{rackBytes, stepBytes, linkBytes, fileOf, fileLength, roomFor, writeAnswer, writeOut}
-use Rattle.job.specs.Cause.{Fits}
+use Rattle.job.specs.Cause.{Untroubled}
 use Rattle.job.specs.Pass.{jobOf}
-use Rattle.job.specs.Laws.Number.{Bytes, none, more, bytes-number}
-use Rattle.job.specs.Laws.Tests.{never, both, platform-facts}
-use Rattle.job.specs.Laws.Stored.{flat-append}
+use Rattle.job.specs.Laws.Tests.{platform-facts}
 use Rattle.job.specs.Laws.Written.{file-size}
 use Rattle.job.specs.Laws.Kinds.{kindByte, kind-byte}
 use Rattle.job.specs.Laws.Turn.{Reads, no-more, halted, past, closed, reads}
@@ -67,20 +68,20 @@ unfolding flatMap
 flatMap-more f xs x = flat-append f xs (x ∷ []) ∙ ap (λ (bs : List ℕ). flatMap f xs ++ bs) (append-nil (f x))
 
 -- one record more
-grown : (k : Kind) (rest : List ℕ) (j : Job) (bs : List ℕ) → 1 ≤ bodyLength k → Bytes rest → Fits rest j k → ReadFrom j bs →
+grown : (k : Kind) (rest : List ℕ) (j : Job) (bs : List ℕ) → 1 ≤ bodyLength k → Bytes rest → Untroubled rest j k → ReadFrom j bs →
     ReadFrom (added j k rest) (bs ++ (kindByte k ∷ take (bodyLength k) rest))
 unfolding bodyLength added stands noRack inRange blank flatMap
 grown rack rest j bs h b f start =
     let p : Platform = platformIn rest in
     rw (← rack-bytes rest (f .whole)) (rw (append-nil (rackBytes p)) at (under-way p [] [] (platform-facts p (f .ranges) .0)))
 grown rack rest j bs h b f (under-way p ts es n) = let z : p .processors ≡ 0 = eqb-true (p .processors) 0 (f .placed) in absurd (omega arith)
-grown step rest j bs h b f start = never (f .placed)
+grown step rest j bs h b f start = impossible (f .placed)
 grown step rest j bs h b f (under-way p ts [] n) =
     let d : ℕ = durationIn rest in
     rw (← step-bytes rest b (f .whole), append-nil (flatMap stepBytes ts), append-assoc (rackBytes p) (flatMap stepBytes ts) (stepBytes d), ← flatMap-more stepBytes ts d)
     (rw (append-nil (flatMap stepBytes (ts ++ (d ∷ [])))) at (under-way p (ts ++ (d ∷ [])) [] n))
-grown step rest j bs h b f (under-way p ts (e ∷ es) n) = never (both (not (eqb (p .processors) 0)) false (f .placed) .1)
-grown link rest j bs h b f start = never (f .placed)
+grown step rest j bs h b f (under-way p ts (e ∷ es) n) = impossible (and-true (not (eqb (p .processors) 0)) false (f .placed) .1)
+grown link rest j bs h b f start = impossible (f .placed)
 grown link rest j bs h b f (under-way p ts es n) =
     let e : Edge = edgeIn rest in
     let steps : List ℕ = flatMap stepBytes ts in
@@ -92,13 +93,13 @@ grown end rest j bs h b f r = absurd (omega arith)
 -- the end record closes the file of the job so far
 closes : (j : Job) (bs : List ℕ) → stands j end ≡ true → ReadFrom j bs → bs ++ (4 ∷ []) ≡ fileOf j
 unfolding stands blank fileOf
-closes j bs s start = never s
+closes j bs s start = impossible s
 closes j bs s (under-way p ts es n) = simp append-assoc
 
 -- the bytes read so far and those that are left are the file of the accepted job
 whole-file : {xs : List ℕ} {j : Job} {a : Answer} → Reads xs j a → (i : Job) → a ≡ accepted i → Bytes xs → (bs : List ℕ) → ReadFrom j bs → bs ++ xs ≡ fileOf i
-whole-file no-more i e b bs r = let z : false ≡ true = cc in never z
-whole-file (halted c) i e b bs r = let z : false ≡ true = cc in never z
+whole-file no-more i e b bs r = let z : false ≡ true = cc in impossible z
+whole-file (halted c) i e b bs r = let z : false ≡ true = cc in impossible z
 whole-file (past {b = x} {rest = rest} {j = j} k q h f t) i e (more l b) bs r =
     let n : ℕ = bodyLength k in
     let w : bs ++ (kindByte k ∷ take n rest) ++ drop n rest ≡ fileOf i = whole-file t i e (bytes-drop n rest b) (bs ++ (kindByte k ∷ take n rest)) (grown k rest j bs h b f r) in

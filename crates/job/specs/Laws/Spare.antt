@@ -1,4 +1,4 @@
--- An array that is filled from the front, its other places 0: one more place filled, and what the array is in the end.
+-- An array that is is-padded from the front, its other places 0: one more place is-padded, and what the array is in the end.
 use mathlib.Core.Path.{_≡_, ap, sym, _∙_}
 use mathlib.Core.List.{List, _++_, _∷_, []}
 use Prim.Native.Nat.{ℕ, suc, _+_, _-_, _≤_, _<_}
@@ -14,12 +14,12 @@ module _ (n m : ℕ) (a : List ℕ) (long : length a ≡ n) where
       let k : n - m ≡ suc (n - (m + 1)) = omega arith in
       drop-set-lt (m + 1) a m x (omega arith) ∙ sym (drop-drop 1 m a) ∙ ap (λ (l : List ℕ). drop 1 l) (e ∙ ap (λ (i : ℕ). replicate i 0) k)
 
-  pub filled : m ≤ n → drop m a ≡ replicate (n - m) 0 → a ≡ padded n (take m a)
+  pub is-padded : m ≤ n → drop m a ≡ replicate (n - m) 0 → a ≡ padded n (take m a)
   unfolding padded
-  filled h e =
+  is-padded h e =
       let k : length (take m a) ≡ m = length-take-le m a (omega arith) in
       sym (take-append-drop m a) ∙ ap (λ (l : List ℕ). take m a ++ l) (e ∙ ap (λ (i : ℕ). replicate (n - i) 0) (sym k))
 
--- the filled part grows by what is stored
+-- the is-padded part grows by what is stored
 pub take-set : {A : Type 0} (a : List A) (m : ℕ) (x : A) → m < length a → take (m + 1) (set a m x) ≡ take m a ++ (x ∷ [])
 take-set a m x h = rw add-one (take-suc-set a m x h)

@@ -9,19 +9,19 @@ use native.Mathlib.Omega.{arith}
 use borrow.Author.Tests.{ltb-true, ltb-false}
 use lib.Dec.{ltb}
 use lib.ListN.{length, drop}
-use Rattle.job.specs.Number.{pick}
+use Rattle.base.specs.Choice.{pick}
 use Rattle.job.specs.Job.{Job}
 use Rattle.job.specs.Record.{Kind, rack, step, link, end, kindOf, bodyLength, stands, full, inRange, endsRight, inOrder, added}
 use Rattle.job.specs.Read.{Answer, accepted, refused, after, judged, records}
-use Rattle.job.specs.Cause.{Cause, Fits, cut, unknown, misplaced, out-of-range, too-many, bad-ends, not-above, bytes-after}
+use Rattle.job.specs.Cause.{Cause, Untroubled, cut, unknown, misplaced, out-of-range, too-many, bad-ends, not-above, bytes-after}
 
 -- the answer to a record: refused with its cause, left to what follows the body, or the job accepted at the end record
 pub data Turn (rest : List ℕ) (j : Job) (more : ℕ → Job → Answer) : Option Kind → Answer → Type 0 where
   halts : {o : Option Kind} {n : ℕ} → Cause rest j o n → Turn rest j more o (refused n)
-  goes-on : (k : Kind) → 1 ≤ bodyLength k → Fits rest j k → Turn rest j more (some k) (more (bodyLength k) (added j k rest))
-  is-end : Fits rest j end → rest ≡ [] → Turn rest j more (some end) (accepted j)
+  goes-on : (k : Kind) → 1 ≤ bodyLength k → Untroubled rest j k → Turn rest j more (some k) (more (bodyLength k) (added j k rest))
+  is-end : Untroubled rest j end → rest ≡ [] → Turn rest j more (some end) (accepted j)
 
-fitted : (k : Kind) (rest : List ℕ) (j : Job) (more : ℕ → Job → Answer) → Fits rest j k → Turn rest j more (some k) (after k rest j more)
+fitted : (k : Kind) (rest : List ℕ) (j : Job) (more : ℕ → Job → Answer) → Untroubled rest j k → Turn rest j more (some k) (after k rest j more)
 unfolding after bodyLength
 fitted rack rest j more f = goes-on rack (omega arith) f
 fitted step rest j more f = goes-on step (omega arith) f
@@ -50,9 +50,9 @@ turn (some k) rest j more = go (stands j k) (full j k) (ltb (length rest) (bodyL
 pub data Reads : List ℕ → Job → Answer → Type 0 where
   no-more : {j : Job} → Reads [] j (refused 1)
   halted : {b : ℕ} {rest : List ℕ} {j : Job} {n : ℕ} → Cause rest j (kindOf b) n → Reads (b ∷ rest) j (refused n)
-  past : {b : ℕ} {rest : List ℕ} {j : Job} {a : Answer} (k : Kind) → kindOf b ≡ some k → 1 ≤ bodyLength k → Fits rest j k →
+  past : {b : ℕ} {rest : List ℕ} {j : Job} {a : Answer} (k : Kind) → kindOf b ≡ some k → 1 ≤ bodyLength k → Untroubled rest j k →
       Reads (drop (bodyLength k) rest) (added j k rest) a → Reads (b ∷ rest) j a
-  closed : {b : ℕ} {rest : List ℕ} {j : Job} → kindOf b ≡ some end → Fits rest j end → rest ≡ [] → Reads (b ∷ rest) j (accepted j)
+  closed : {b : ℕ} {rest : List ℕ} {j : Job} → kindOf b ≡ some end → Untroubled rest j end → rest ≡ [] → Reads (b ∷ rest) j (accepted j)
 
 pub reads : (xs : List ℕ) (skip : ℕ) (j : Job) → Reads (drop skip xs) j (records xs skip j)
 unfolding records

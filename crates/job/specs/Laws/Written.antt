@@ -10,19 +10,21 @@ use borrow.Author.Tests.{ltb-false}
 use lib.Dec.{ltb}
 use lib.ListN.{length, getD, take, drop, length-append}
 use lib.Seq.{take-at, drop-at}
+use Rattle.base.specs.Choice.{pick}
+use Rattle.base.specs.Number.{bytes}
+use Rattle.base.specs.Laws.Tests.{impossible}
+use Rattle.base.specs.Laws.Number.{length-bytes}
+use Rattle.base.specs.Laws.Stored.{flat-size}
 use Rattle.job.specs.declared.Platform.{Platform}
 use Rattle.job.specs.declared.Written.the-variants.{Length, Refused}
-use Rattle.job.specs.Number.{pick, bytes}
 use Rattle.job.specs.Job.{Edge, Job, blank}
 use Rattle.job.specs.Record.{Kind, rack, step, link, end, kindOf, bodyLength, added, platformIn, durationIn, edgeIn}
 use Rattle.job.specs.Read.{Answer, accepted, refused, judged, records, readJob}
 use Rattle.job.specs.Write.{rackBytes, stepBytes, linkBytes, fileOf, fileLength, roomFor, writeAnswer, writeOut}
 use Rattle.job.specs.Pass.{jobOf, edge}
-use Rattle.job.specs.Laws.Number.{length-bytes}
 use Rattle.job.specs.Laws.Judged.{skip}
 use Rattle.job.specs.Laws.Encoded.{number-read}
-use Rattle.job.specs.Laws.Stored.{step-size, link-size, flat-size}
-use Rattle.job.specs.Laws.Tests.{never}
+use Rattle.job.specs.Laws.Sizes.{step-size, link-size}
 use Rattle.job.specs.Laws.Turn.{Turn, halts, goes-on, is-end, turn}
 
 pub file-size : (j : Job) → length (fileOf j) ≡ fileLength (length (j .tasks)) (length (j .edges))
@@ -47,10 +49,10 @@ takes m l n j out e = go (ltb 256 m) (ltb 1024 l) (readJob (fileOf j)) (ltb (len
   where
     go : (s t : Bool) (a : Answer) (r : Bool) → ltb 256 m ≡ s → ltb 1024 l ≡ t → readJob (fileOf j) ≡ a → ltb (length out) (fileLength m l) ≡ r →
         pick (s || t) (Refused 5) (roomFor (fileLength m l) out a) ≡ Length n → Takes m l n j out
-    go true t a r hs ht ha hr h = let z : false ≡ true = cc in never z
-    go false true a r hs ht ha hr h = let z : false ≡ true = cc in never z
-    go false false (refused k) r hs ht ha hr h = let z : false ≡ true = cc in never z
-    go false false (accepted i) true hs ht ha hr h = let q : Refused 9 ≡ Length n = rw hr at h in let z : false ≡ true = cc in never z
+    go true t a r hs ht ha hr h = let z : false ≡ true = cc in impossible z
+    go false true a r hs ht ha hr h = let z : false ≡ true = cc in impossible z
+    go false false (refused k) r hs ht ha hr h = let z : false ≡ true = cc in impossible z
+    go false false (accepted i) true hs ht ha hr h = let q : Refused 9 ≡ Length n = rw hr at h in let z : false ≡ true = cc in impossible z
     go false false (accepted i) false hs ht ha hr h =
         let q : Length (fileLength m l) ≡ Length n = rw hr at h in
         let z : n ≡ fileLength m l = cc in
@@ -64,7 +66,7 @@ past-body k rest j i h e = go (some k) (judged (some k) rest j (records rest)) r
   where
     go : (o : Option Kind) (a : Answer) → o ≡ some k → a ≡ accepted i → Turn rest j (records rest) o a →
         records (drop (bodyLength k) rest) 0 (added j k rest) ≡ accepted i
-    go o a q e (halts c) = let z : false ≡ true = cc in never z
+    go o a q e (halts c) = let z : false ≡ true = cc in impossible z
     go o a q e (goes-on k′ h′ f) = let z : k′ ≡ k = cc in rw (← z) (sym (skip rest (bodyLength k′) (added j k′ rest)) ∙ e)
     go o a q e (is-end f z) = let w : k ≡ end = cc in let b : 1 ≤ bodyLength end = rw w at h in absurd (omega arith)
 
@@ -102,7 +104,7 @@ unfolding records kindOf bodyLength
 past-end j i e = go (some end) (judged (some end) [] j (records [])) refl e (turn (some end) [] j (records []))
   where
     go : (o : Option Kind) (a : Answer) → o ≡ some end → a ≡ accepted i → Turn [] j (records []) o a → i ≡ j
-    go o a q e (halts c) = let z : false ≡ true = cc in never z
+    go o a q e (halts c) = let z : false ≡ true = cc in impossible z
     go o a q e (goes-on k h f) = let w : k ≡ end = cc in let b : 1 ≤ bodyLength end = rw w at h in absurd (omega arith)
     go o a q e (is-end f z) = cc
 

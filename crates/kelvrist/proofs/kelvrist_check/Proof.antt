@@ -1,39 +1,85 @@
--- `kelvrist_check` reads the tasks that the plan's bytes hold, and returns the number of what `check` says of them.
-use mathlib.Core.Path.{_≡_, refl, ap, sym, _∙_}
+-- `kelvrist_check` returns a refused file's number, 9 for a plan too short for the job's tasks, and else the number of what `check` says of these.
+use mathlib.Core.Path.{_≡_, ap, sym, _∙_}
 use mathlib.Core.List.{List}
 use Prim.Native.Nat.{ℕ, _*_, _≤_, _<_}
 use native.Mathlib.Omega.{arith}
 use borrow.Author.Needs.{needs}
-use lib.ListN.{length, getD, take}
-use lib.Seq.{length-take-le, getD-take}
+use lib.ListN.{length, getD}
+use Rattle.job.specs.declared.Reading.{Reading}
+use Rattle.job.specs.declared.Verdict.the-variants.{Counts, Refused}
+use Rattle.job.specs.Job.{Job}
+use Rattle.job.specs.Read.{accepted, readJob, verdictNumber, readingOf}
+use Rattle.job.specs.Accepted.{accepted-job, counted, refused-is}
+use Rattle.etf.specs.OfJob.{instance}
 use Rattle.schedule.specs.declared.Checked.{Checked}
 use Rattle.schedule.specs.Check.{checkCall}
 use Rattle.kelvrist.specs.PlanBytes.{processorIn, startIn, checkBytesCall}
-use Rattle.kelvrist.specs.Numbers.{checkNumber, wholeTasks, check-number}
+use Rattle.kelvrist.specs.Numbers.{checkNumber, check-passes-on, check-short, check-number}
 use Rattle.kelvrist.proofs.kelvrist_check.Statement.{statement}
 use Rattle.kelvrist.proofs.kelvrist_check.Tie as tie
 
--- t tasks, as many as the plan's bytes hold, have places in an array of 256
-module _ (n : ℕ) {t : ℕ} (t-is : t ≡ wholeTasks n) where
-  in-bytes : 5 * t ≤ n
-  unfolding wholeTasks
-  in-bytes = omega arith
+module _ (file : List ℕ) {x : Reading} (e : x ≡ readingOf (readJob file)) {m l : ℕ} (v : x .verdict ≡ Counts m l) where
+  found : (j : Job) × (readJob file ≡ accepted j) × (length (j .tasks) ≡ m) × (length (j .edges) ≡ l)
+  found = counted (readJob file) m l (ap (λ (r : Reading). r .verdict) (sym e) ∙ v)
 
-  in-array : {l : ℕ} → l ≡ 256 → t ≤ l
-  unfolding wholeTasks
-  in-array h = omega arith
+  few : m ≤ 256
+  few = omega (arith, found .2, accepted-job file (found .0) (found .1) .few-tasks)
 
--- what `check` says of them has the call's number
-answers : (file plan starts processors : List ℕ) {t n : ℕ} {c : Checked} (k : ℕ) → t ≡ wholeTasks (length plan) → length starts ≡ 256 → length processors ≡ 256
-    → ((T : ℕ) → T < k → (getD starts T 0 ≡ startIn plan T) × (getD processors T 0 ≡ processorIn plan T)) → k ≡ t
-    → c ≡ checkCall file (take t starts) (take t processors) → n ≡ checkNumber c → n ≡ checkBytesCall file plan
-answers file plan starts processors {t} k t-is a b got k-is c-is n-is =
-    n-is ∙ (ap checkNumber c-is ∙ sym (check-number file plan (take t starts) (take t processors)
-    (length-take-le t starts (in-array (length plan) t-is a) ∙ t-is) (length-take-le t processors (in-array (length plan) t-is b) ∙ t-is)
-    (λ T h. let i : T < t = omega (arith, t-is) in let j : T < k = omega (arith, k-is) in (getD-take t starts T 0 i ∙ got T j .0, getD-take t processors T 0 i ∙ got T j .1))))
+module _ (file plan : List ℕ) {x : Reading} (e : x ≡ readingOf (readJob file)) where
+  refuses : {k : ℕ} (n : ℕ) → x .verdict ≡ Refused k → n ≡ verdictNumber (x .verdict) → n ≡ checkBytesCall file plan
+  refuses n v g =
+      let says = refused-is (readJob file) (ap (λ (r : Reading). r .verdict) (sym e) ∙ v) in
+      g ∙ (ap verdictNumber v ∙ sym (check-passes-on file plan _ says))
 
-whole-tasks-requires : tie.Need-whole-tasks-requires
-whole-tasks-requires c κs = search needs
+  module _ {m l : ℕ} (v : x .verdict ≡ Counts m l) where
+    abbrev job : (j : Job) × (readJob file ≡ accepted j) × (length (j .tasks) ≡ m) × (length (j .edges) ≡ l)
+    job = found file e v
+
+    too-short : length plan < 5 * m → 9 ≡ checkBytesCall file plan
+    unfolding instance
+    too-short h = sym (check-short file plan (job .0) (job .1) (omega (arith, job .2)))
+
+    -- the tasks that were decoded are the job's
+    answers : (starts processors : List ℕ) {c : Checked} {n : ℕ} (k : ℕ) → 5 * m ≤ length plan → length starts ≡ 256 → length processors ≡ 256
+        → ((T : ℕ) → T < k → (getD starts T 0 ≡ startIn plan T) × (getD processors T 0 ≡ processorIn plan T)) → k ≡ m
+        → c ≡ checkCall file starts processors → n ≡ checkNumber c → n ≡ checkBytesCall file plan
+    unfolding instance
+    answers starts processors k h a b got k-is c-is n-is =
+        n-is
+        ∙ (ap checkNumber c-is
+        ∙ sym (check-number file plan (job .0) (job .1) starts processors (omega (arith, job .2)) (omega (arith, job .2, few file e v))
+        (omega (arith, job .2, few file e v)) (λ T i. got T (omega (arith, job .2)))))
+
+read-requires : tie.Need-read-requires
+read-requires c κs = search needs
+
+enum-known-verdict : tie.Need-enum-known-verdict
+enum-known-verdict c = search needs
+
+enum-told : tie.Need-enum-told
+enum-told c = search needs
+
+number-requires : tie.Need-number-requires
+number-requires c κs = search needs
+
+wide8-requires : tie.Need-wide8-requires
+wide8-requires c κs = search needs
+
+returns : tie.Need-returns
+returns c =
+    let at-number = c .before in
+    let at-told = at-number .before in
+    refuses _ _ (at-told .before .before .read .ensures) _ (at-told .enum-told .given .1) (omega (arith, c .wide8 .ensures .0, at-number .number .ensures))
+
+mul-bytes : tie.Need-mul-bytes
+mul-bytes c =
+    let at-verdict = c .before in
+    record { fits = omega (arith, few _ (at-verdict .before .before .read .ensures) (at-verdict .verdict .given .1)) }
+
+returns-2 : tie.Need-returns-2
+returns-2 c =
+    let at-verdict = c .before .before in
+    too-short _ _ (at-verdict .before .before .read .ensures) (at-verdict .verdict .given .1) (omega (arith, c .if1 .taken))
 
 slice-aggregate-get : tie.Need-slice-aggregate-get
 slice-aggregate-get c = search needs
@@ -43,29 +89,16 @@ slice-aggregate-get-2 c = search needs
 
 get-requires : tie.Need-get-requires
 get-requires c κs =
-    let t-is = c .before .before .whole-tasks .ensures in
-    let few = in-array _ t-is {l = 256} refl in
-    (omega (arith, few), omega (arith, few), omega (arith, in-bytes _ t-is))
-
-array-share-prefix-starts : tie.Need-array-share-prefix-starts
-array-share-prefix-starts c =
-    let at-get = c .before .before in
-    in-array _ (at-get .before .before .before .whole-tasks .ensures) (at-get .get .kept .1 .1 .0)
+    let at-if1 = c .before .before in
+    let at-verdict = at-if1 .before .before in
+    let small = few _ (at-verdict .before .before .read .ensures) (at-verdict .verdict .given .1) in
+    (omega (arith, small), omega (arith, small), omega (arith, at-if1 .if1 .left))
 
 slice-aggregate-check : tie.Need-slice-aggregate-check
-slice-aggregate-check c =
-    let at-get = c .before .before .before in
-    sym (length-take-le _ _ (in-array _ (at-get .before .before .before .whole-tasks .ensures) (at-get .get .kept .1 .1 .0)))
-
-array-share-prefix-processors : tie.Need-array-share-prefix-processors
-array-share-prefix-processors c =
-    let at-get = c .before .before .before in
-    in-array _ (at-get .before .before .before .whole-tasks .ensures) (at-get .get .kept .1 .1 .1 .0)
+slice-aggregate-check c = search needs
 
 slice-aggregate-check-2 : tie.Need-slice-aggregate-check-2
-slice-aggregate-check-2 c =
-    let at-get = c .before .before .before .before in
-    sym (length-take-le _ _ (in-array _ (at-get .before .before .before .whole-tasks .ensures) (at-get .get .kept .1 .1 .1 .0)))
+slice-aggregate-check-2 c = search needs
 
 check-requires : tie.Need-check-requires
 check-requires c κs = search needs
@@ -73,25 +106,33 @@ check-requires c κs = search needs
 check-number-requires : tie.Need-check-number-requires
 check-number-requires c κs = search needs
 
-returns : tie.Need-returns
-returns c =
+returns-3 : tie.Need-returns-3
+returns-3 c =
     let at-check = c .before in
     let at-get = at-check .before .before .before .before .before in
-    let t-is = at-get .before .before .before .whole-tasks .ensures in
-    answers _ _ _ _ _ t-is (at-get .get .kept .1 .1 .0) (at-get .get .kept .1 .1 .1 .0) (at-get .get .ensures) (omega arith) (at-check .check .ensures) (c .check-number .ensures)
+    let at-if1 = at-get .before .before .before in
+    let at-verdict = at-if1 .before .before in
+    answers _ _ (at-verdict .before .before .read .ensures) (at-verdict .verdict .given .1) _ _ _ (omega (arith, at-if1 .if1 .left))
+    (at-get .get .kept .1 .1 .0) (at-get .get .kept .1 .1 .1 .0) (at-get .get .ensures) (omega arith) (at-check .check .ensures)
+    (c .check-number .ensures)
 
 pub kelvrist-check-spec : {M : Type 1} → statement M
 kelvrist-check-spec =
     tie.close
     (tie.spec
-    whole-tasks-requires
+    read-requires
+    enum-known-verdict
+    enum-told
+    number-requires
+    wide8-requires
+    returns
+    mul-bytes
+    returns-2
     slice-aggregate-get
     slice-aggregate-get-2
     get-requires
-    array-share-prefix-starts
     slice-aggregate-check
-    array-share-prefix-processors
     slice-aggregate-check-2
     check-requires
     check-number-requires
-    returns)
+    returns-3)

@@ -7,11 +7,11 @@ use native.Mathlib.Omega.{arith}
 use borrow.Author.Needs.{needs}
 use borrow.Author.Tests.{lt-ltb, le-ltb}
 use lib.ListN.{length, getD, drop, replicate, length-replicate}
-use Rattle.job.specs.Number.{pick}
+use Rattle.base.specs.Choice.{pick}
+use Rattle.base.specs.Laws.Tests.{impossible}
 use Rattle.job.specs.Job.{Job}
 use Rattle.job.specs.Read.{Answer, accepted, refused, readJob}
 use Rattle.job.specs.Accepted.{accepted-job}
-use Rattle.job.specs.Laws.Tests.{never}
 use Rattle.etf.specs.Instance.{tasks}
 use Rattle.etf.specs.OfJob.{instance}
 use Rattle.etf.specs.Laws.OfJob.{few}
@@ -19,7 +19,7 @@ use Rattle.schedule.specs.declared.Planned.{Planned}
 use Rattle.schedule.specs.declared.Planned.the-variants.{Plan, Refused}
 use Rattle.schedule.specs.Plan.{PlanCall, called, tooShort, planAccepted, planFor, planCall}
 use Rattle.kelvrist.specs.PlanBytes.{returned, planBytes, planBytesCall}
-use Rattle.kelvrist.specs.Numbers.{planNumber, wholeTasks, inBytes, plan-in-bytes}
+use Rattle.kelvrist.specs.Numbers.{planNumber, inBytes, plan-in-bytes}
 use Rattle.kelvrist.proofs.kelvrist_plan.Statement.{statement}
 use Rattle.kelvrist.proofs.kelvrist_plan.Tie as tie
 
@@ -30,19 +30,18 @@ few-tasks file starts processors scratch {m = m} {E = E} e h = go (readJob file)
   where
     held : (j : Job) → readJob file ≡ accepted j → (b : Bool)
         → (pick b (called (Refused 9) starts processors scratch) (planAccepted (instance j) starts processors scratch)) .answer ≡ Plan m E → m ≤ 256
-    held j d true w = let z : false ≡ true = cc in never z
+    held j d true w = let z : false ≡ true = cc in impossible z
     held j d false w = let same : m ≡ tasks (instance j) = cc in omega (arith, same, few j (accepted-job file j d))
 
     go : (a : Answer) → readJob file ≡ a → planFor a starts processors scratch .answer ≡ Plan m E → m ≤ 256
     go (accepted j) d w = held j d (tooShort (tasks (instance j)) starts processors scratch) w
-    go (refused k) d w = let z : false ≡ true = cc in never z
+    go (refused k) d w = let z : false ≡ true = cc in impossible z
 
 -- over arrays of zeros: the answer r, and what they hold afterwards
 module _ (file plan : List ℕ) {r : Planned} {s p t : List ℕ} (e : called r s p t ≡ planCall file (replicate 256 0) (replicate 256 0) (replicate 4096 0)) where
   in-bytes : inBytes (called r s p t) plan ≡ planBytesCall file plan
-  unfolding wholeTasks
   in-bytes =
-      let room : wholeTasks (length plan) ≤ length (replicate {A = ℕ} 256 0) = omega (arith, length-replicate {A = ℕ} 256 0) in
+      let room : 256 ≤ length (replicate {A = ℕ} 256 0) = omega (arith, length-replicate {A = ℕ} 256 0) in
       ap (λ (x : PlanCall). inBytes x plan) e
       ∙ sym (plan-in-bytes file plan (replicate 256 0) (replicate 256 0) (replicate 4096 0) room room (omega (arith, length-replicate {A = ℕ} 4096 0)))
 

@@ -6,11 +6,11 @@ use native.Mathlib.Nat.{zero-add, add-zero}
 use native.Mathlib.Omega.{arith}
 use lib.ListN.{length, getD, take, drop}
 use lib.Seq.{take-append-seam, drop-append-seam, getD-drop, drop-drop}
-use Rattle.job.specs.Number.{number, bytes}
-use Rattle.job.specs.Write.{values}
-use Rattle.job.specs.Laws.Number.{length-bytes, number-bytes}
+use Rattle.base.specs.Number.{number, bytes}
+use Rattle.base.specs.Lists.{values}
+use Rattle.base.specs.Laws.Number.{length-bytes, number-bytes}
+use Rattle.base.specs.Laws.Values.{upto-values}
 use Rattle.kelvrist.specs.PlanBytes.{taskBytes, planBytes, processorIn, startIn}
-use Rattle.schedule.specs.Laws.Lists.{upto-values}
 use Rattle.kelvrist.specs.Laws.Encoded.{task-size}
 
 module _ (g : ℕ → List ℕ) (five : (T : ℕ) → length (g T) ≡ 5) (rest : List ℕ) where

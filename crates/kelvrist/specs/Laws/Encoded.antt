@@ -1,20 +1,20 @@
 -- A plan's bytes against the two arrays that hold it, by stores that follow on each other and by place.
-use mathlib.Core.Path.{_≡_, refl, ap, _∙_}
+use mathlib.Core.Path.{_≡_, refl, ap, sym, _∙_}
 use mathlib.Core.Logic.{_⊎_, inl, inr}
-use mathlib.Core.List.{List, _++_, flatMap}
+use mathlib.Core.List.{List, [], _∷_, _++_, flatMap}
 use Prim.Native.Nat.{ℕ, suc, _+_, _*_, _≤_, _<_}
 use native.Mathlib.Nat.{zero-add}
 use native.Mathlib.Omega.{arith}
 use lib.ListN.{length, getD, take, drop, set}
 use lib.Seq.{sets, getD-set-same, getD-set-other}
-use Rattle.job.specs.Number.{number}
-use Rattle.job.specs.Laws.Number.{length-bytes}
-use Rattle.job.specs.Laws.Stored.{sets-front, flat-size, store-more}
-use Rattle.etf.specs.Lists.{upto}
-use Rattle.etf.specs.Laws.Lists.{upto-of, length-upto, flatMap-same}
-use Rattle.etf.specs.Laws.Tests.{le-or-lt}
+use Rattle.base.specs.Number.{number}
+use Rattle.base.specs.Lists.{upto}
+use Rattle.base.specs.Laws.Tests.{le-or-lt}
+use Rattle.base.specs.Laws.Number.{length-bytes, four-at}
+use Rattle.base.specs.Laws.Lists.{upto-of, length-upto, flatMap-same}
+use Rattle.base.specs.Laws.Values.{upto-values}
+use Rattle.base.specs.Laws.Stored.{sets-front, flat-size, store-more}
 use Rattle.kelvrist.specs.PlanBytes.{taskBytes, planBytes, processorIn, startIn}
-use Rattle.schedule.specs.Laws.Lists.{upto-values}
 
 -- ---- put
 
@@ -54,18 +54,26 @@ module _ (processor start : ℕ → ℕ) where
 unfoldable pub Got : List ℕ → List ℕ → List ℕ → ℕ → Type 0
 Got plan starts processors t = (T : ℕ) → T < t → (getD starts T 0 ≡ startIn plan T) × (getD processors T 0 ≡ processorIn plan T)
 
--- one task more, stored at its place in each array
-pub got-more : (plan starts processors : List ℕ) (t s : ℕ) → Got plan starts processors t → t < length starts → t < length processors → s ≡ number (take 4 (drop (5 * t + 1) plan)) →
-    Got plan (set starts t s) (set processors t (getD plan (5 * t) 0)) (t + 1)
+-- one task more, its five bytes taken one by one and stored at its place in each array
+pub got-more : (plan starts processors : List ℕ) (t at p s : ℕ) → Got plan starts processors t → t < length starts → t < length processors
+    → 5 * t + 5 ≤ length plan → at ≡ 5 * t → p ≡ getD plan at 0
+    → s ≡ number (getD plan (at + 1) 0 ∷ getD plan (at + 2) 0 ∷ getD plan (at + 3) 0 ∷ getD plan (at + 4) 0 ∷ [])
+    → Got plan (set starts t s) (set processors t p) (t + 1)
 unfolding Got processorIn startIn
-got-more plan starts processors t s g hs hp e T h = go (le-or-lt (suc T) t)
+got-more plan starts processors t at p s g hs hp l at-is p-is s-is T h = go (le-or-lt (suc T) t)
   where
-    go : (suc T ≤ t) ⊎ (t < suc T) → (getD (set starts t s) T 0 ≡ startIn plan T) × (getD (set processors t (getD plan (5 * t) 0)) T 0 ≡ processorIn plan T)
-    go (inl k) =
-        (getD-set-other starts t T s 0 (λ q. omega arith) ∙ g T k .0, getD-set-other processors t T (getD plan (5 * t) 0) 0 (λ q. omega arith) ∙ g T k .1)
+    start : s ≡ number (take 4 (drop (5 * t + 1) plan))
+    start =
+        let two : 5 * t + 1 + 1 ≡ at + 2 = omega arith in
+        let three : 5 * t + 1 + 2 ≡ at + 3 = omega arith in
+        let four : 5 * t + 1 + 3 ≡ at + 4 = omega arith in
+        s-is ∙ sym (ap number (four-at plan (5 * t + 1) (omega arith) ∙ rw (two, three, four, ← at-is)))
+
+    go : (suc T ≤ t) ⊎ (t < suc T) → (getD (set starts t s) T 0 ≡ startIn plan T) × (getD (set processors t p) T 0 ≡ processorIn plan T)
+    go (inl k) = (getD-set-other starts t T s 0 (λ q. omega arith) ∙ g T k .0, getD-set-other processors t T p 0 (λ q. omega arith) ∙ g T k .1)
     go (inr k) =
         let q : T ≡ t = omega arith in
-        rw q (getD-set-same starts t s 0 hs ∙ e, getD-set-same processors t (getD plan (5 * t) 0) 0 hp)
+        rw q (getD-set-same starts t s 0 hs ∙ start, getD-set-same processors t p 0 hp ∙ (p-is ∙ rw at-is))
 
 -- ---- only the tasks' places count: plans that are the same on the first m tasks have the same bytes
 pub plan-bytes-same : (m : ℕ) (p q s t : ℕ → ℕ) → ((T : ℕ) → T < m → p T ≡ q T) → ((T : ℕ) → T < m → s T ≡ t T) → planBytes m p s ≡ planBytes m q t

@@ -7,8 +7,8 @@ use native.Mathlib.Omega.{arith}
 use borrow.Author.Tests.{le-ltb}
 use lib.Dec.{ltb}
 use lib.ListN.{length, drop, length-append}
+use Rattle.base.specs.Choice.{pick}
 use Rattle.job.specs.Job.{Job}
-use Rattle.job.specs.Number.{pick}
 use Rattle.job.specs.Read.{accepted}
 use Rattle.job.specs.Accepted.{Accepted}
 use Rattle.etf.specs.Instance.{Instance, tasks}

@@ -4,9 +4,9 @@ use mathlib.Core.List.{List}
 use Prim.Native.Nat.{ℕ}
 use native.Mathlib.Omega.{arith}
 use borrow.Author.Needs.{needs}
+use Rattle.base.specs.Slices.{Put}
+use Rattle.base.specs.Laws.Put.{put-then}
 use Rattle.listing.specs.Listing.{text, field, header}
-use Rattle.listing.specs.Pass.{Put}
-use Rattle.listing.specs.Laws.Put.{put-then}
 use Rattle.listing.proofs.header.Statement.{statement}
 use Rattle.listing.proofs.header.Tie as tie
 

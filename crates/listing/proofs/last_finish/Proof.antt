@@ -4,8 +4,8 @@ use Prim.Native.Nat.{_+_, _-_, _≤_}
 use native.Mathlib.Omega.{arith}
 use borrow.Author.Needs.{needs}
 use lib.ListN.{length, getD}
-use Rattle.schedule.specs.Pass.{most}
-use Rattle.schedule.specs.Laws.Chained.{none-yet, one-place}
+use Rattle.base.specs.Rows.{most}
+use Rattle.base.specs.Laws.Most.{none-yet, one-place}
 use Rattle.listing.proofs.last_finish.Statement.{statement}
 use Rattle.listing.proofs.last_finish.Tie as tie
 

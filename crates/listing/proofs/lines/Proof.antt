@@ -4,8 +4,8 @@ use Prim.Native.Nat.{_+_, _*_, _-_, _≤_}
 use native.Mathlib.Omega.{arith}
 use borrow.Author.Needs.{needs}
 use lib.ListN.{length, getD}
+use Rattle.base.specs.Slices.{Put}
 use Rattle.listing.specs.Listing.{taskLines}
-use Rattle.listing.specs.Pass.{Put}
 use Rattle.listing.specs.Laws.Put.{lines-none, lines-more}
 use Rattle.listing.proofs.lines.Statement.{statement}
 use Rattle.listing.proofs.lines.Tie as tie

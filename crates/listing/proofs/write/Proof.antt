@@ -1,9 +1,8 @@
 -- `write`: what the pieces put one after the other is the listing of the file.
-use mathlib.Core.Path.{refl, _∙_}
+use mathlib.Core.Path.{refl}
 use Prim.Native.Nat.{_≤_}
 use native.Mathlib.Omega.{arith}
 use borrow.Author.Needs.{needs}
-use Rattle.listing.specs.Listing.{text}
 use Rattle.listing.specs.Laws.Listed.{refused-listed, few-tasks, few-edges, durations-size, finish-fits, plan-listed}
 use Rattle.listing.proofs.write.Statement.{statement}
 use Rattle.listing.proofs.write.Tie as tie
@@ -17,23 +16,17 @@ enum-known-verdict c = search needs
 enum-told : tie.Need-enum-told
 enum-told c = search needs
 
-slice-aggregate-line : tie.Need-slice-aggregate-line
-slice-aggregate-line c = search needs
+number-requires : tie.Need-number-requires
+number-requires c κs = search needs
 
 refusal-requires : tie.Need-refusal-requires
 refusal-requires c κs = search needs
 
-wide8-requires : tie.Need-wide8-requires
-wide8-requires c κs = search needs
-
-line-requires : tie.Need-line-requires
-line-requires c κs = search needs
-
 returns : tie.Need-returns
-unfolding text
 returns c =
-    let at-read = c .before .before .before .before .before .before .before in
-    (refused-listed _ (at-read .read .ensures) (c .before .before .before .before .before .enum-told .given .1) (c .before .wide8 .ensures ∙ c .before .before .refusal .ensures) (c .line .ensures .0) (omega arith), search needs)
+    let at-number = c .before .before in
+    let at-told = at-number .before in
+    (refused-listed _ _ (at-told .before .before .read .ensures) (at-told .enum-told .given .1) (omega (arith, at-number .number .ensures)) (c .refusal .ensures .0), c .refusal .ensures .1)
 
 slice-aggregate-cover : tie.Need-slice-aggregate-cover
 slice-aggregate-cover c = search needs
@@ -127,10 +120,8 @@ write-spec =
     read-requires
     enum-known-verdict
     enum-told
-    slice-aggregate-line
+    number-requires
     refusal-requires
-    wide8-requires
-    line-requires
     returns
     slice-aggregate-cover
     slice-aggregate-cover-2

@@ -8,7 +8,7 @@ use borrow.Author.Tests.{lt-ltb, le-ltb}
 use lib.Dec.{ltb}
 use lib.ListN.{length, set, drop, length-set, length-append, drop-of-length-le}
 use lib.Seq.{drop-cons, drop-set-lt, getD-set-same, lt-length-set}
-use Rattle.job.specs.Number.{pick}
+use Rattle.base.specs.Choice.{pick}
 use Rattle.listing.specs.Listing.{digits, decimal, field, line}
 
 -- a place that was set, and those after it

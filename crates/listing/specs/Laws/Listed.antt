@@ -7,12 +7,18 @@ use native.Mathlib.Omega.{arith}
 use borrow.Author.Tests.{le-ltb}
 use lib.ListN.{length, getD, drop}
 use Rattle.job.specs.declared.Verdict.the-variants.{Counts, Refused}
+use Rattle.base.specs.Lists.{upto}
+use Rattle.base.specs.Rows.{most}
+use Rattle.base.specs.Slices.{Put}
+use Rattle.base.specs.Laws.Lists.{upto-of, flatMap-same}
+use Rattle.base.specs.Laws.Most.{most-same, greatest-upto}
+use Rattle.base.specs.Laws.Stored.{sets-front}
+use Rattle.base.specs.Laws.Filled.{filled-at}
+use Rattle.base.specs.Laws.Put.{put-then}
 use Rattle.job.specs.declared.Reading.{Reading}
 use Rattle.job.specs.Job.{Job}
 use Rattle.job.specs.Read.{accepted, readJob, readingOf}
 use Rattle.job.specs.Accepted.{Accepted, accepted-job, counted, arrays}
-use Rattle.job.specs.Laws.Stored.{sets-front}
-use Rattle.etf.specs.Lists.{upto}
 use Rattle.etf.specs.Instance.{Instance, tasks, duration}
 use Rattle.etf.specs.Schedule.{end}
 use Rattle.etf.specs.Rule.{planned}
@@ -20,20 +26,17 @@ use Rattle.etf.specs.Cover.{cover}
 use Rattle.etf.specs.Dearest.{dearest}
 use Rattle.etf.specs.OfJob.{instance}
 use Rattle.etf.specs.Jobs.{well-formed, no-end-passes}
-use Rattle.etf.specs.Laws.Lists.{upto-of, flatMap-same}
 use Rattle.etf.specs.Laws.Planned.{home, by-end}
 use Rattle.etf.specs.Laws.Bound.{end-by-task}
 use Rattle.schedule.specs.declared.Covered.{Covered}
 use Rattle.schedule.specs.Plan.{startOf, processorOf}
 use Rattle.schedule.specs.Cover.{CoverCall, covered, coverAccepted, coverFor, coverCall}
-use Rattle.schedule.specs.Pass.{most, verdictNumber}
-use Rattle.schedule.specs.Laws.Filled.{filled-at}
-use Rattle.schedule.specs.Laws.Most.{most-same}
-use Rattle.schedule.specs.Laws.Chained.{greatest-upto}
-use Rattle.schedule.specs.Laws.Reading.{refused-is}
-use Rattle.listing.specs.Listing.{text, line, header, taskLines, figures, planListing, listingFor, listing, listed, listingCall}
-use Rattle.listing.specs.Pass.{Put, coverIn, dearestIn}
-use Rattle.listing.specs.Laws.Put.{put-then}
+use Rattle.job.specs.Read.{verdictNumber}
+use Rattle.job.specs.Accepted.{refused-is}
+use Rattle.listing.specs.Listing.{text, line, header, taskLines, figures, planListing, refusalLine, listingFor, listing}
+use Rattle.listing.specs.Listing.{ListingCall, listed, putFirst, listingCall}
+use Rattle.listing.specs.Printed.{refused-text}
+use Rattle.listing.specs.Pass.{coverIn, dearestIn}
 
 -- ---- the same numbers, the same text
 
@@ -50,22 +53,26 @@ pub listing-same : {E E′ C C′ D D′ : ℕ} {a a′ b b′ : List ℕ} → a
     → a ++ (b ++ figures E C D) ≡ a′ ++ (b′ ++ figures E′ C′ D′)
 listing-same p q x y z = rw (p, q, x, y, z)
 
--- the text stands at the front of the buffer
-put-front : (file : List ℕ) {out out′ : List ℕ} {n : ℕ} {s : List ℕ} → Put out out′ 0 n s → s ≡ listing file → n ≤ length out → listed n out′ ≡ listingCall file out
-unfolding listingCall
-put-front file {out} {out′} {n} {s} p e h =
-    let size : n ≡ length (listing file) = p .past ∙ (zero-add (length s) ∙ ap length e) in
-    let stored : out′ ≡ listing file ++ drop (length (listing file)) out = p .stored ∙ rw e (sets-front out (listing file) (length (listing file)) refl (omega (arith, size))) in
+-- what was put stands at the front of the buffer
+pub put-front : {out out′ : List ℕ} {n : ℕ} {s : List ℕ} → Put out out′ 0 n s → n ≤ length out → listed n out′ ≡ putFirst s out
+unfolding putFirst
+put-front {out} {out′} {n} {s} p h =
+    let size : n ≡ length s = p .past ∙ zero-add (length s) in
+    let stored : out′ ≡ s ++ drop (length s) out = p .stored ∙ sets-front out s (length s) refl (omega (arith, size)) in
     rw (size, stored)
 
+-- the line of a refusal
+pub refusal-put : {out out′ : List ℕ} {r x n : ℕ} → Put out out′ 0 r (line (text "refused ") x) → x ≡ n → r ≤ length out
+    → listed r out′ ≡ putFirst (refusalLine n) out
+unfolding refusalLine
+refusal-put p e h = put-front (rw e at p) h
+
 -- a refused file
-pub refused-listed : (file : List ℕ) {x : Reading} {k n : ℕ} {out out′ : List ℕ} {r : ℕ} → x ≡ readingOf (readJob file) → x .verdict ≡ Refused k → n ≡ verdictNumber (x .verdict)
-    → Put out out′ 0 r (line (text "refused ") n) → r ≤ length out → listed r out′ ≡ listingCall file out
-unfolding listing listingFor
-refused-listed file {x} {k} {n} e v g p h =
+pub refused-listed : (file out : List ℕ) {x : Reading} {k n : ℕ} {c : ListingCall} → x ≡ readingOf (readJob file) → x .verdict ≡ Refused k
+    → n ≡ verdictNumber (x .verdict) → c ≡ putFirst (refusalLine n) out → c ≡ listingCall file out
+refused-listed file out e v g h =
     let says = refused-is (readJob file) (ap (λ (y : Reading). y .verdict) (sym e) ∙ v) in
-    let number : n ≡ k = g ∙ ap verdictNumber v in
-    put-front file p (ap (line (text "refused ")) number ∙ ap listingFor (sym says)) h
+    h ∙ (ap (λ (i : ℕ). putFirst (refusalLine i) out) (g ∙ ap verdictNumber v) ∙ refused-text file out _ says)
 
 -- an accepted file, and what was read of it
 module _ (file : List ℕ) {x : Reading} {m l : ℕ} (e : x ≡ readingOf (readJob file)) (v : x .verdict ≡ Counts m l) where
@@ -152,7 +159,8 @@ module _ (file : List ℕ) {x : Reading} {m l : ℕ} (e : x ≡ readingOf (readJ
         → Put o₁ o₂ i j (taskLines m (λ T. getD p T 0) (λ T. getD s T 0) (λ T. getD (x .durations) T 0))
         → Put o₂ o₃ j k (figures E C D)
         → E ≡ most m (λ T. getD s T 0 + getD (x .durations) T 0) → C ≡ coverIn q → D ≡ dearestIn q → k ≤ length out → listed k o₃ ≡ listingCall file out
-    unfolding listing listingFor planListing
-    plan-listed E C D first second third e-is c-is d-is fits =
-        put-front file (put-then first (put-then second third))
-        (listing-same header-is lines-are (e-is ∙ end-is) (c-is ∙ cover-right) (d-is ∙ dearest-right) ∙ ap listingFor (sym (found .1))) fits
+    unfolding listingCall listing listingFor planListing
+    plan-listed {out = out} E C D first second third e-is c-is d-is fits =
+        put-front (put-then first (put-then second third)) fits
+        ∙ ap (λ (s : List ℕ). putFirst s out)
+        (listing-same header-is lines-are (e-is ∙ end-is) (c-is ∙ cover-right) (d-is ∙ dearest-right) ∙ ap listingFor (sym (found .1)))

@@ -3,18 +3,13 @@ use mathlib.Core.Path.{_≡_, refl, ap, sym, _∙_}
 use mathlib.Core.List.{List, [], _∷_, _++_, flatMap, append-nil}
 use Prim.Native.Nat.{ℕ, suc, _+_, _<_}
 use native.Mathlib.Omega.{arith}
-use lib.ListN.{length, getD, take, set, length-append}
+use lib.ListN.{length, getD, take, set}
 use lib.Seq.{sets, take-suc, take-all, length-take-le}
-use Rattle.job.specs.Laws.Stored.{sets-append, flat-append}
-use Rattle.etf.specs.Lists.{upto}
+use Rattle.base.specs.Lists.{upto}
+use Rattle.base.specs.Slices.{Put}
+use Rattle.base.specs.Laws.Put.{put-then}
+use Rattle.base.specs.Laws.Stored.{sets-append, flat-append}
 use Rattle.listing.specs.Listing.{taskLine, taskLines}
-use Rattle.listing.specs.Pass.{Put}
-
-pub put-then : {l l′ l″ : List ℕ} {a b c : ℕ} {s t : List ℕ} → Put l l′ a b s → Put l′ l″ b c t → Put l l″ a c (s ++ t)
-put-then {l} {l′} {l″} {a} {b} {c} {s} {t} p q = record {
-  stored = q .stored ∙ rw (p .stored, p .past, ← sets-append l a s t);
-  past = omega (arith, p .past, q .past, length-append s t);
-}
 
 -- one byte of a word more
 pub word-more : (out out′ : List ℕ) (at i : ℕ) (bytes : List ℕ) → i < length bytes → out′ ≡ sets out at (take i bytes)
@@ -31,10 +26,6 @@ word-all out out′ at i bytes h e = record {
   stored = e ∙ ap (sets out at) (take-all i bytes (omega (arith, h)));
   past = omega (arith, h);
 }
-
--- one byte after a text
-pub put-byte : {l l′ : List ℕ} {a b : ℕ} {s : List ℕ} (x : ℕ) → Put l l′ a b s → Put l (set l′ b x) a (b + 1) (s ++ (x ∷ []))
-put-byte x p = put-then p (record { stored = refl; past = refl })
 
 -- the lines of the tasks, one by one
 module _ (processor start time : ℕ → ℕ) where

@@ -5,7 +5,7 @@ use mathlib.Core.List.{List, [], _∷_, _++_}
 use Prim.Native.Nat.{ℕ, zero, suc, _+_, _*_, _-_, _/_, _%_, _^_, _≤_, _<_}
 use native.Mathlib.Omega.{arith, pow-step}
 use borrow.Author.Tests.{lt-ltb, le-ltb}
-use Rattle.etf.specs.Laws.Tests.{le-or-lt}
+use Rattle.base.specs.Laws.Tests.{le-or-lt}
 use Rattle.listing.specs.Listing.{digits}
 
 -- the number that digits tell after the number v

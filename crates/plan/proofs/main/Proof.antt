@@ -42,19 +42,19 @@ array-share-prefix-input c =
     let at-read = c .before .before .before .before in
     came-within (at-read .read-all .last .0) (c .before .came .given .1) (at-read .read-all .ensures) (at-read .read-all .kept .0)
 
-slice-aggregate-write : tie.Need-slice-aggregate-write
-slice-aggregate-write c =
+slice-aggregate-answer : tie.Need-slice-aggregate-answer
+slice-aggregate-answer c =
     let at-read = c .before .before .before .before .before in
     sym (length-take-le _ (at-read .read-all .last .0) (came-within (at-read .read-all .last .0) (c .before .before .came .given .1) (at-read .read-all .ensures) (at-read .read-all .kept .0)))
 
-write-requires : tie.Need-write-requires
-write-requires c κs = search needs
+answer-requires : tie.Need-answer-requires
+answer-requires c κs = search needs
 
 array-share-prefix-output : tie.Need-array-share-prefix-output
-array-share-prefix-output c = text-within _ _ (c .write .ensures .0)
+array-share-prefix-output c = text-within _ _ (c .answer .ensures)
 
 slice-aggregate-write-all : tie.Need-slice-aggregate-write-all
-slice-aggregate-write-all c = sym (length-take-le (c .before .write .result) (c .before .write .last .1 .0) (text-within _ _ (c .before .write .ensures .0)))
+slice-aggregate-write-all c = sym (length-take-le (c .before .answer .result) (c .before .answer .last .1 .0) (text-within _ _ (c .before .answer .ensures)))
 
 write-all-requires : tie.Need-write-all-requires
 write-all-requires c κs = search needs
@@ -83,8 +83,8 @@ main-spec =
     fail-requires
     returns
     array-share-prefix-input
-    slice-aggregate-write
-    write-requires
+    slice-aggregate-answer
+    answer-requires
     array-share-prefix-output
     slice-aggregate-write-all
     write-all-requires

@@ -14,11 +14,11 @@ enum-known-verdict c = search needs
 enum-told : tie.Need-enum-told
 enum-told c = search needs
 
-refusal-requires : tie.Need-refusal-requires
-refusal-requires c κs = search needs
+number-requires : tie.Need-number-requires
+number-requires c κs = search needs
 
 returns : tie.Need-returns
-returns c = check-passes-on _ (c .before .before .before .read .ensures) (c .before .enum-told .given .1) (c .refusal .ensures) _ _
+returns c = check-passes-on _ (c .before .before .before .read .ensures) (c .before .enum-told .given .1) (c .number .ensures) _ _
 
 returns-2 : tie.Need-returns-2
 returns-2 c =
@@ -75,7 +75,7 @@ check-spec =
     read-requires
     enum-known-verdict
     enum-told
-    refusal-requires
+    number-requires
     returns
     returns-2
     returns-3

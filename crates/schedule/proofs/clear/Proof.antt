@@ -5,8 +5,8 @@ use Prim.Native.Nat.{ℕ, _+_, _-_, _≤_, _<_}
 use native.Mathlib.Omega.{arith}
 use borrow.Author.Needs.{needs}
 use lib.ListN.{length, set}
-use Rattle.schedule.specs.Plan.{filled}
-use Rattle.schedule.specs.Laws.Filled.{filled-none, filled-more}
+use Rattle.base.specs.Slices.{filled}
+use Rattle.base.specs.Laws.Filled.{filled-none, filled-more}
 use Rattle.schedule.proofs.clear.Statement.{statement}
 use Rattle.schedule.proofs.clear.Tie as tie
 

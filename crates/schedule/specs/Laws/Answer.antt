@@ -12,19 +12,19 @@ use borrow.Author.Tests.{ltb-true, ltb-false, lt-ltb, le-ltb}
 use lib.Dec.{ltb, eqb, ltb→lt, lt→ltb, eqb→eq, eqb·suc-zero}
 use lib.Dec.{T as Holds}
 use lib.ListN.{getD}
-use Rattle.job.specs.Number.{pick}
+use Rattle.base.specs.Choice.{pick}
+use Rattle.base.specs.Lists.{values, upto, any}
+use Rattle.base.specs.Laws.Tests.{both, first, second, same-test, eq→eqb, le-or-lt}
+use Rattle.base.specs.Laws.Lists.{upto-of, map-same}
+use Rattle.base.specs.Laws.Values.{map-upto}
 use Rattle.job.specs.Job.{Edge}
-use Rattle.job.specs.Write.{values, edgeHeld}
-use Rattle.etf.specs.Lists.{upto, any}
+use Rattle.job.specs.Write.{edgeHeld}
 use Rattle.etf.specs.Instance.{Instance, tasks, messageTime}
 use Rattle.etf.specs.Schedule.{Placement, scheduleOf}
 use Rattle.etf.specs.Checker.{firstAnswer, misplaced, overlap, early, check}
-use Rattle.etf.specs.Laws.Lists.{upto-of, map-same}
-use Rattle.etf.specs.Laws.Tests.{both, first, second, same-test, eq→eqb, le-or-lt}
 use Rattle.etf.specs.Laws.Checker.{overlap-of, overlap-in, early-of, early-in, overlapping, hasty}
 use Rattle.schedule.specs.Check.{checkOf, numberOf}
 use Rattle.schedule.specs.Pass.{someIn, placeTrouble, placeTroubles, overlapAt, overlapsLater, earlyAt}
-use Rattle.schedule.specs.Laws.Lists.{map-upto}
 use Rattle.schedule.specs.Laws.Progress.{Given}
 use Rattle.schedule.specs.Laws.Rows.{some-of, some-at, some-same, somePair, pair-of, pair-at, any-value, any-pair}
 

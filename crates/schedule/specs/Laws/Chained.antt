@@ -4,52 +4,32 @@ use mathlib.Core.Path.{_≡_, refl, sym, ap, _∙_}
 use mathlib.Core.Logic.{_⊎_, inl, inr}
 use mathlib.Core.Bool.{Bool, true, false}
 use mathlib.Core.List.{List, [], _∷_, _++_}
-use Prim.Native.Nat.{ℕ, zero, suc, _+_, _*_, _≤_, _<_, max}
+use Prim.Native.Nat.{ℕ, zero, suc, _+_, _*_, _≤_, _<_}
 use native.Mathlib.Nat.{zero-add, add-comm}
 use native.Mathlib.Omega.{arith}
 use lib.Dec.{eqb}
 use lib.ListN.{getD}
+use Rattle.base.specs.Choice.{pick}
+use Rattle.base.specs.Lists.{values, _∈_, upto, filter, greatest}
+use Rattle.base.specs.Rows.{most}
+use Rattle.base.specs.Laws.Tests.{le-or-lt, eq→eqb, pick-yes}
+use Rattle.base.specs.Laws.Lists.{filter-append, greatest-same, greatest-append}
+use Rattle.base.specs.Laws.Values.{values-snoc}
+use Rattle.base.specs.Laws.Most.{most-ge, most-at, most-same, greatest-upto}
 use Rattle.job.specs.declared.Platform.{Platform}
-use Rattle.job.specs.Number.{pick}
 use Rattle.job.specs.Job.{Edge}
-use Rattle.job.specs.Write.{values, edgeHeld, heldJob}
-use Rattle.job.specs.Laws.Values.{values-snoc}
-use Rattle.etf.specs.Lists.{_∈_, upto, filter, greatest}
+use Rattle.job.specs.Write.{edgeHeld, heldJob}
 use Rattle.etf.specs.Instance.{Instance, tasks, into}
 use Rattle.etf.specs.OfJob.{instance}
 use Rattle.etf.specs.Dearest.{greatestCost, dearestTo, dearest}
-use Rattle.etf.specs.Laws.Tests.{le-or-lt, eq→eqb, pick-yes}
-use Rattle.etf.specs.Laws.Lists.{filter-append, greatest-same}
 use Rattle.etf.specs.Laws.Placements.{into-of}
-use Rattle.schedule.specs.Pass.{most, InArrays}
+use Rattle.schedule.specs.Pass.{InArrays}
 use Rattle.schedule.specs.CoverPass.{greatestIn, chainBy, Chained}
-use Rattle.schedule.specs.Laws.Most.{most-ge, most-at, most-same, most-more}
 use Rattle.schedule.specs.Laws.Given.{given, cost-at, cost-small}
 
 -- ---- the greatest, kept place by place
 
--- of no place
-pub none-yet : (f : ℕ → ℕ) → _≡_ {A = ℕ} 0 (most 0 f)
-unfolding most
-none-yet f = refl
-
--- one place more: the greater of the greatest so far and the one here
-pub one-place : (f : ℕ → ℕ) (k before after : ℕ) → before ≡ most k f → after ≡ max before (f k) → after ≡ most (k + 1) f
-one-place f k before after e d = omega (arith, most-more k f)
-
 -- ---- the greatest over a list and over numbers
-
--- the greatest over two lists joined
-greatest-append : {A : Type 0} (f : A → ℕ) (s t : List A) → greatest f (s ++ t) ≡ max (greatest f s) (greatest f t)
-unfolding greatest
-greatest-append f [] t = omega arith
-greatest-append f (x ∷ s) t = omega (arith, greatest-append f s t)
-
--- the greatest over 0, 1, .. , n - 1
-pub greatest-upto : (f : ℕ → ℕ) (n : ℕ) → greatest f (upto n) ≡ most n f
-unfolding greatest upto most
-greatest-upto f zero = refl
-greatest-upto f (suc n) = omega (arith, greatest-append f (upto n) (n ∷ []), greatest-upto f n)
 
 -- the greatest over those of a numbered row that pass a test
 greatest-values : {A : Type 0} (f : A → ℕ) (p : A → Bool) (g : ℕ → A) (l : ℕ) → greatest f (filter p (values g 0 l)) ≡ most l (λ k. pick (p (g k)) (f (g k)) 0)

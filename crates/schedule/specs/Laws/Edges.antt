@@ -8,9 +8,9 @@ use native.Mathlib.Omega.{arith}
 use lib.Dec.{leb, eqb, eqb→eq, leb→le, le→leb}
 use lib.Dec.{T as Holds}
 use lib.ListN.{getD}
-use Rattle.etf.specs.Laws.Tests.{fails, first, second, le-or-lt}
+use Rattle.base.specs.Laws.Tests.{fails, first, second, le-or-lt}
+use Rattle.base.specs.Laws.Most.{until, until-before, until-past}
 use Rattle.schedule.specs.Pass.{Runs, sentTo}
-use Rattle.schedule.specs.Laws.Most.{until, until-before, until-past}
 
 -- the edges of task T: the first, and the one after the last
 abbrev pub firstEdge : List ℕ → ℕ → ℕ

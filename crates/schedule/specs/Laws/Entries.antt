@@ -9,10 +9,12 @@ use borrow.Author.Tests.{lt-ltb, le-ltb, ltb-false}
 use lib.Dec.{ltb}
 use lib.ListN.{length, getD}
 use Rattle.job.specs.declared.Verdict.the-variants.{Refused}
+use Rattle.base.specs.Slices.{filled}
+use Rattle.base.specs.Laws.Tests.{impossible}
+use Rattle.base.specs.Laws.Filled.{filled-length, filled-at, filled-filled}
 use Rattle.job.specs.declared.Reading.{Reading}
-use Rattle.job.specs.Read.{refused, readJob, readingOf}
+use Rattle.job.specs.Read.{refused, readJob, readingOf, verdictNumber}
 use Rattle.job.specs.Write.{heldJob}
-use Rattle.job.specs.Laws.Tests.{never}
 use Rattle.etf.specs.Instance.{Instance, tasks}
 use Rattle.etf.specs.Schedule.{scheduleOf}
 use Rattle.etf.specs.Checker.{Because, no-processor, too-late, overlaps, too-early}
@@ -22,13 +24,13 @@ use Rattle.schedule.specs.declared.Planned.the-variants.{Plan, Refused a
 use Rattle.schedule.specs.declared.Covered.{Covered}
 use Rattle.schedule.specs.declared.Covered.the-variants.{Refused as NotCovered}
 use Rattle.schedule.specs.declared.Checked.the-variants.{Yes, Refused as NotChecked}
-use Rattle.schedule.specs.Plan.{called, filled, scratchAt, tooShort, planAccepted, planFor, planCall}
+use Rattle.schedule.specs.Plan.{called, scratchAt, tooShort, planAccepted, planFor, planCall}
 use Rattle.schedule.specs.Cover.{covered, coverAccepted, coverFor, coverCall}
 use Rattle.schedule.specs.Check.{checkOf, checkedAs, numberOf, checkFor, checkCall}
-use Rattle.schedule.specs.Pass.{Room, Ran, shortOf, verdictNumber}
+use Rattle.schedule.specs.Pass.{Room, Ran, shortOf}
 use Rattle.schedule.specs.CoverPass.{Measured}
-use Rattle.schedule.specs.Laws.Filled.{filled-length, filled-at, filled-filled}
-use Rattle.schedule.specs.Laws.Reading.{refused-is, Read}
+use Rattle.job.specs.Accepted.{refused-is}
+use Rattle.schedule.specs.Laws.Reading.{Read}
 
 -- ---- the checker's answer as a number: no refusal has the number 0
 
@@ -61,9 +63,9 @@ long-enough {m} {a} {b} {c} e w = go (ltb a m) refl (ltb b m) refl (ltb c 4096) 
   where
     go : (x : Bool) → ltb a m ≡ x → (y : Bool) → ltb b m ≡ y → (z : Bool) → ltb c 4096 ≡ z → x || (y || z) ≡ false → (m ≤ a) × (m ≤ b) × (4096 ≤ c)
     go false p false q false r h = (ltb-false a m p, ltb-false b m q, ltb-false c 4096 r)
-    go true p y q z r h = never (sym h)
-    go false p true q z r h = never (sym h)
-    go false p false q true r h = never (sym h)
+    go true p y q z r h = impossible (sym h)
+    go false p true q z r h = impossible (sym h)
+    go false p false q true r h = impossible (sym h)
 
 pub cleared-room : {m : ℕ} {starts processors : List ℕ} (scratch : List ℕ) {cleared : List ℕ} → (m ≤ length starts) × (m ≤ length processors) × (4096 ≤ length scratch)
     → cleared ≡ filled (λ x. 0) 4096 scratch → Room m starts processors cleared

@@ -8,20 +8,21 @@ use native.Mathlib.Omega.{arith}
 use lib.Dec.{ltb, eqb, lt→ltb, ltb→lt}
 use lib.Dec.{T as Holds}
 use lib.ListN.{getD}
-use Rattle.etf.specs.Lists.{any, greatest}
+use Rattle.base.specs.Lists.{any, greatest}
+use Rattle.base.specs.Rows.{one-if}
+use Rattle.base.specs.Laws.Tests.{fails, both, first, second, pick-yes, pick-no, le-or-lt}
+use Rattle.base.specs.Laws.Lists.{in-nothing}
+use Rattle.base.specs.Laws.Sums.{sum-same}
+use Rattle.base.specs.Laws.Most.{most-none}
+use Rattle.base.specs.Laws.Filled.{is-filled}
 use Rattle.etf.specs.Instance.{Instance, tasks}
 use Rattle.etf.specs.Schedule.{Placement, placed, placementOf, finish, arrival, end}
 use Rattle.etf.specs.Rule.{begin, run, complete, planned}
-use Rattle.etf.specs.Laws.Tests.{fails, both, first, second, pick-yes, pick-no, le-or-lt}
-use Rattle.etf.specs.Laws.Lists.{in-nothing}
-use Rattle.etf.specs.Laws.Sums.{one-if, sum-same}
 use Rattle.etf.specs.Laws.Placements.{placement-of}
 use Rattle.etf.specs.Laws.Rounds.{complete-at, planned-by}
 use Rattle.etf.specs.Laws.Sound.{Sound, Opened}
 use Rattle.schedule.specs.Plan.{startOf, processorOf, scratchAt}
 use Rattle.schedule.specs.Pass.{edgesTo, Room, Ran}
-use Rattle.schedule.specs.Laws.Most.{most-none}
-use Rattle.schedule.specs.Laws.Filled.{is-filled}
 use Rattle.schedule.specs.Laws.Progress.{Given, reached, finishedBy, awaited, Progress, Untouched, state}
 use Rattle.schedule.specs.Laws.Look.{arrival-is, complete-is}
 

@@ -7,19 +7,18 @@ use Prim.Native.Nat.{ℕ, zero, suc, _*_, _≤_, _<_}
 use native.Mathlib.Nat.{mul-le-mul}
 use native.Mathlib.Omega.{arith}
 use lib.ListN.{length, getD}
+use Rattle.base.specs.Laws.Tests.{le-or-lt}
+use Rattle.base.specs.Laws.Values.{length-values, value-at}
 use Rattle.job.specs.declared.Platform.{Platform}
 use Rattle.job.specs.Job.{Edge, Job}
 use Rattle.job.specs.Accepted.{Before, edgeAt}
 use Rattle.job.specs.Write.{edgeHeld, heldJob}
-use Rattle.job.specs.Laws.Values.{length-values}
 use Rattle.etf.specs.Instance.{Instance, tasks, duration}
 use Rattle.etf.specs.Topology.{cost}
 use Rattle.etf.specs.OfJob.{instance}
-use Rattle.etf.specs.Laws.Tests.{le-or-lt}
 use Rattle.etf.specs.Laws.Costs.{cost-most, row-length, square-most, square-cost}
 use Rattle.etf.specs.Laws.OfJob.{of-job, few, short-tasks}
 use Rattle.schedule.specs.Pass.{InArrays}
-use Rattle.schedule.specs.Laws.Lists.{value-at}
 use Rattle.schedule.specs.Laws.Progress.{Given}
 
 -- what at most 1,000 messages take

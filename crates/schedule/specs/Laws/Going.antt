@@ -8,17 +8,17 @@ use native.Mathlib.Omega.{arith}
 use native.Mathlib.Numerals.{add-one}
 use lib.Dec.{T as Holds}
 use lib.ListN.{length, getD, set, length-set}
-use Rattle.job.specs.Write.{values, heldJob}
+use Rattle.base.specs.Lists.{values, _∈_, here}
+use Rattle.base.specs.Rows.{sum, one-if}
+use Rattle.base.specs.Laws.Tests.{not-both, fails, le-or-lt}
+use Rattle.job.specs.Write.{heldJob}
 use Rattle.job.specs.declared.Platform.{Platform}
-use Rattle.etf.specs.Lists.{_∈_, here}
 use Rattle.etf.specs.Instance.{Instance, tasks, duration}
 use Rattle.etf.specs.Schedule.{Placement, placed, finish, arrival}
 use Rattle.etf.specs.Rule.{State, begin, run, round, complete, choice, nextMoment, ready}
 use Rattle.etf.specs.OfJob.{instance}
 use Rattle.etf.specs.Jobs.{no-finish-passes-after}
-use Rattle.etf.specs.Laws.Tests.{not-both, fails, le-or-lt}
-use Rattle.etf.specs.Laws.Sums.{sum, one-if}
-use Rattle.etf.specs.Laws.Turn.{ready-of, Put}
+use Rattle.etf.specs.Laws.Turn.{ready-of, NewPlacement}
 use Rattle.etf.specs.Laws.Rounds.{enough-rounds, run-last}
 use Rattle.etf.specs.Laws.Sound.{Sound, Opened, sound-start, sound-run}
 use Rattle.etf.specs.Laws.Times.{clock-after, arrival-after}
@@ -195,14 +195,14 @@ module _ {I : Instance} {m n l : ℕ} {durations from to counts : List ℕ} {cos
           abbrev u : Placement
           u = record { task = pair .task; processor = pair .processor; start = pair .start }
 
-          put-turn : (round I (state clock ps) ≡ state clock (u ∷ ps)) × Put I clock ps u
+          put-turn : (round I (state clock ps) ≡ state clock (u ∷ ps)) × NewPlacement I clock ps u
           put-turn =
               let t = placing I (X .arrays .well) clock ps incomplete finish-by
               (subst (λ (x : ℕ). pairOf (choice I clock ps) .start ≤ x) next-is (subst (λ (q : Pair). q .start ≤ r .next) choice-is h)) in
               let same : u ≡ t .0 = ap (λ (q : Pair). record { task = q .task; processor = q .processor; start = q .start }) (choice-is ∙ t .1) in
-              (t .2 ∙ ap (λ (v : Placement). state clock (v ∷ ps)) (sym same), subst (Put I clock ps) (sym same) (t .3))
+              (t .2 ∙ ap (λ (v : Placement). state clock (v ∷ ps)) (sym same), subst (NewPlacement I clock ps) (sym same) (t .3))
 
-          put-is : Put I clock ps u
+          put-is : NewPlacement I clock ps u
           put-is = put-turn .1
 
           pub task-below : pair .task < m

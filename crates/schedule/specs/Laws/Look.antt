@@ -10,23 +10,23 @@ use native.Mathlib.Omega.{arith}
 use lib.Dec.{leb, eqb, leb→le, le→leb, nleb→lt, eqb→eq}
 use lib.Dec.{T as Holds}
 use lib.ListN.{getD}
-use Rattle.job.specs.Number.{pick}
+use Rattle.base.specs.Choice.{pick}
+use Rattle.base.specs.Lists.{values, _∈_, upto, filter}
+use Rattle.base.specs.Rows.{most}
+use Rattle.base.specs.Laws.Tests.{either, not-both, fails, both, first, second, pick-yes, same-test, eq→eqb, le-or-lt}
+use Rattle.base.specs.Laws.Lists.{all-of, all-at, filter-same, upto-in, upto-of, place}
+use Rattle.base.specs.Laws.Values.{length-values, value-at, value-in}
+use Rattle.base.specs.Laws.Sums.{one-if-yes, one-if-no, sum-ge}
+use Rattle.base.specs.Laws.Most.{most-ge, most-at, sum-none}
 use Rattle.job.specs.Job.{Edge}
-use Rattle.job.specs.Write.{values, edgeHeld}
-use Rattle.job.specs.Laws.Values.{length-values}
-use Rattle.etf.specs.Lists.{_∈_, upto, filter}
+use Rattle.job.specs.Write.{edgeHeld}
 use Rattle.etf.specs.Instance.{Instance, tasks, into}
 use Rattle.etf.specs.Schedule.{Placement, placed, placementOf, finish, reach, arrival}
 use Rattle.etf.specs.Rule.{nextMoment, free, ready, complete}
-use Rattle.etf.specs.Laws.Tests.{either, not-both, fails, both, first, second, pick-yes, same-test, eq→eqb, le-or-lt}
-use Rattle.etf.specs.Laws.Lists.{all-of, all-at, filter-same, upto-in, upto-of, place}
-use Rattle.etf.specs.Laws.Sums.{one-if-yes, one-if-no, sum-ge}
 use Rattle.etf.specs.Laws.Placements.{into-of, into-in, arrival-ge, arrival-at}
 use Rattle.etf.specs.Laws.Turn.{free-of, taken-by, Ready, ready-of, ready-in, Next, endless, at, next-is}
 use Rattle.etf.specs.Laws.Sound.{Sound, Opened}
-use Rattle.schedule.specs.Pass.{most, never, soonest, freeAmong, canStart}
-use Rattle.schedule.specs.Laws.Lists.{value-at, value-in}
-use Rattle.schedule.specs.Laws.Most.{most-ge, most-at, sum-none}
+use Rattle.schedule.specs.Pass.{never, soonest, freeAmong, canStart}
 use Rattle.schedule.specs.Laws.Progress.{neverOr, Given, Progress, sends, awaits, reached, finishedBy, awaited}
 
 -- numbers are the same where what is below the one is below the other

@@ -11,27 +11,27 @@ use native.Mathlib.Omega.{arith}
 use lib.Dec.{ltb, eqb, lt→ltb, ltb→lt, eqb→eq}
 use lib.Dec.{T as Holds}
 use lib.ListN.{length, getD}
+use Rattle.base.specs.Choice.{pick}
+use Rattle.base.specs.Lists.{_∈_, here, upto, keep, best}
+use Rattle.base.specs.Rows.{one-if, most}
+use Rattle.base.specs.Laws.Tests.{not-both, fails, both, or-left, or-right, pick-yes, pick-no, eq→eqb, le-or-lt}
+use Rattle.base.specs.Laws.Lists.{place, length-upto, upto-at, Order, Best, nothing, found, best-is, by-greatest, by-greatest-then-least}
+use Rattle.base.specs.Laws.Values.{length-values, value-at}
+use Rattle.base.specs.Laws.Sums.{one-if-yes, sum-ge}
+use Rattle.base.specs.Laws.Most.{most-ge}
 use Rattle.job.specs.declared.Platform.{Platform}
-use Rattle.job.specs.Number.{pick}
 use Rattle.job.specs.Job.{Edge, Job}
 use Rattle.job.specs.Accepted.{Before}
 use Rattle.job.specs.Write.{edgeHeld, heldJob}
-use Rattle.job.specs.Laws.Values.{length-values}
-use Rattle.etf.specs.Lists.{_∈_, here, upto, keep, best}
 use Rattle.etf.specs.Instance.{Instance, tasks, duration, into, messageTime}
 use Rattle.etf.specs.Schedule.{Placement, placementOf, finish, messageTimeTo, reach}
 use Rattle.etf.specs.Rule.{planned}
 use Rattle.etf.specs.OfJob.{instance}
 use Rattle.etf.specs.Cover.{later, latestInto, lastTask}
-use Rattle.etf.specs.Laws.Tests.{not-both, fails, both, or-left, or-right, pick-yes, pick-no, eq→eqb, le-or-lt}
-use Rattle.etf.specs.Laws.Lists.{place, length-upto, upto-at, Order, Best, nothing, found, best-is, by-greatest, by-greatest-then-least}
-use Rattle.etf.specs.Laws.Sums.{one-if, one-if-yes, sum-ge}
 use Rattle.etf.specs.Laws.Planned.{home, on-processor}
 use Rattle.schedule.specs.Plan.{startOf, processorOf}
-use Rattle.schedule.specs.Pass.{most, edgesTo, InArrays}
+use Rattle.schedule.specs.Pass.{edgesTo, InArrays}
 use Rattle.schedule.specs.CoverPass.{FirstMost, messageAt, reachAt, reachInto, MovesBack, HoldsPlan}
-use Rattle.schedule.specs.Laws.Lists.{value-at}
-use Rattle.schedule.specs.Laws.Most.{most-ge}
 use Rattle.schedule.specs.Laws.Given.{given, held-tasks, held-processors, cost-at, cost-small}
 use Rattle.schedule.specs.Laws.Look.{edge-place, edge-into}
 

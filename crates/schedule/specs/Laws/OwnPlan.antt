@@ -8,20 +8,21 @@ use native.Mathlib.Omega.{arith}
 use borrow.Author.Tests.{le-ltb, ltb-false}
 use lib.Dec.{ltb}
 use lib.ListN.{length, getD}
+use Rattle.base.specs.Choice.{pick}
+use Rattle.base.specs.Slices.{filled}
+use Rattle.base.specs.Laws.Tests.{impossible}
+use Rattle.base.specs.Laws.Filled.{filled-at, filled-length}
 use Rattle.job.specs.Job.{Job}
-use Rattle.job.specs.Number.{pick}
 use Rattle.job.specs.Read.{accepted}
 use Rattle.job.specs.Accepted.{Accepted}
-use Rattle.job.specs.Laws.Tests.{never}
 use Rattle.etf.specs.Instance.{Instance, tasks}
 use Rattle.etf.specs.Schedule.{byTask}
 use Rattle.etf.specs.OfJob.{instance}
 use Rattle.etf.specs.Jobs.{planned-accepted}
 use Rattle.schedule.specs.declared.Planned.the-variants.{Plan, Refused}
 use Rattle.schedule.specs.declared.Checked.the-variants.{Yes}
-use Rattle.schedule.specs.Plan.{called, filled, startOf, processorOf, planAccepted, planFor}
+use Rattle.schedule.specs.Plan.{called, startOf, processorOf, planAccepted, planFor}
 use Rattle.schedule.specs.Check.{checkOf, checkedAs, checkFor}
-use Rattle.schedule.specs.Laws.Filled.{filled-at, filled-length}
 use Rattle.schedule.specs.Laws.Answer.{check-of-same}
 
 module _ (j : Job) (a : Accepted j) where
@@ -46,9 +47,9 @@ module _ (j : Job) (a : Accepted j) where
           → (pick (b || (c || d)) (called (Refused 9) starts processors scratch) (planAccepted I starts processors scratch)) .answer ≡ Plan m e
           → checkFor (accepted j) ((pick (b || (c || d)) (called (Refused 9) starts processors scratch) (planAccepted I starts processors scratch)) .starts)
           ((pick (b || (c || d)) (called (Refused 9) starts processors scratch) (planAccepted I starts processors scratch)) .processors) ≡ Yes
-      go true p c q d w = let z : false ≡ true = cc in never z
-      go false p true q d w = let z : false ≡ true = cc in never z
-      go false p false q true w = let z : false ≡ true = cc in never z
+      go true p c q d w = let z : false ≡ true = cc in impossible z
+      go false p true q d w = let z : false ≡ true = cc in impossible z
+      go false p false q true w = let z : false ≡ true = cc in impossible z
       go false p false q false w =
           simp (
             le-ltb (length (filled (startOf I) (tasks I) starts)) (tasks I) (omega (arith, filled-length (startOf I) (tasks I) starts (room starts p), room starts p)),

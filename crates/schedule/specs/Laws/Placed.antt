@@ -9,24 +9,25 @@ use lib.Dec.{leb, eqb, eqb→eq}
 use lib.Dec.{T as Holds}
 use lib.ListN.{length, getD, set, length-set}
 use lib.Seq.{getD-set-same, getD-set-other}
-use Rattle.job.specs.Number.{pick}
+use Rattle.base.specs.Choice.{pick}
+use Rattle.base.specs.Lists.{_∈_, here, there, any, greatest}
+use Rattle.base.specs.Rows.{sum, one-if, most}
+use Rattle.base.specs.Laws.Tests.{either, not-both, fails, second, pick-no, is-true, is-false, same-or-not, le-or-lt}
+use Rattle.base.specs.Laws.Lists.{for-cons}
+use Rattle.base.specs.Laws.Sums.{sum-same, sum-add, one-if-no}
+use Rattle.base.specs.Laws.Most.{most-same, most-max, most-none, until, most-until, sum-until, sum-none, count-most}
 use Rattle.job.specs.Write.{edgeHeld}
-use Rattle.etf.specs.Lists.{_∈_, here, there, any, greatest}
 use Rattle.etf.specs.Instance.{Instance, tasks, messageTime}
 use Rattle.etf.specs.Schedule.{Placement, placed, placementOf, finish, messageTimeTo, reach, end}
-use Rattle.etf.specs.Laws.Lists.{for-cons}
-use Rattle.etf.specs.Laws.Tests.{either, not-both, fails, second, pick-no, is-true, is-false, same-or-not, le-or-lt}
-use Rattle.etf.specs.Laws.Sums.{sum, one-if, sum-same, sum-add, one-if-no}
 use Rattle.etf.specs.Laws.Placements.{placement-head, placement-tail, placed-head, placed-more, placed-less, placement-of}
-use Rattle.etf.specs.Laws.Turn.{free-of, Put}
+use Rattle.etf.specs.Laws.Turn.{free-of, NewPlacement}
 use Rattle.etf.specs.Laws.Sound.{Sound}
-use Rattle.schedule.specs.Pass.{most, Runs, sentTo, Sent, placedMark, Skipped}
-use Rattle.schedule.specs.Laws.Most.{most-same, most-max, most-none, until, most-until, sum-until, sum-none, count-most}
+use Rattle.schedule.specs.Pass.{Runs, sentTo, Sent, placedMark, Skipped}
 use Rattle.schedule.specs.Laws.Progress.{Given, sends, awaits, reached, finishedBy, awaited, Progress, Untouched}
 use Rattle.schedule.specs.Laws.Look.{edge-into}
 use Rattle.schedule.specs.Laws.Edges.{firstEdge, lastEdge, last-most, sent-of, sent-ours, until-ours, until-others}
 
-module _ {I : Instance} {cm : ℕ} {ps : List Placement} {u : Placement} (K : Put I cm ps u) where
+module _ {I : Instance} {cm : ℕ} {ps : List Placement} {u : Placement} (K : NewPlacement I cm ps u) where
   -- ---- what is placed afterwards: what was, and the new task
 
   fresh : ¬ Holds (placed ps (u .task))

@@ -8,15 +8,15 @@ use Prim.Native.Nat.{ℕ, _+_, _*_, _≤_, _<_}
 use lib.Dec.{eqb}
 use lib.Dec.{T as Holds}
 use lib.ListN.{length, getD}
-use Rattle.job.specs.Number.{pick}
-use Rattle.job.specs.Write.{values, edgeHeld}
-use Rattle.etf.specs.Lists.{_∈_, upto}
+use Rattle.base.specs.Choice.{pick}
+use Rattle.base.specs.Lists.{values, _∈_, upto}
+use Rattle.base.specs.Rows.{sum, one-if, most}
+use Rattle.job.specs.Write.{edgeHeld}
 use Rattle.etf.specs.Instance.{Instance, WellFormed, tasks, duration}
 use Rattle.etf.specs.Schedule.{Placement, placed, placementOf, finish, reach, end}
 use Rattle.etf.specs.Rule.{State}
-use Rattle.etf.specs.Laws.Sums.{sum, one-if}
 use Rattle.schedule.specs.declared.planner.Pair.{Pair}
-use Rattle.schedule.specs.Pass.{most, never, noPair, placedMark}
+use Rattle.schedule.specs.Pass.{never, noPair, placedMark}
 
 -- ---- what the rule gives, as the planner holds it
 

@@ -1,25 +1,17 @@
 -- What the planner and the checker learn from the reader's contract: a verdict with counts comes with an accepted job, which the arrays hold.
-use mathlib.Core.Bool.{true, false}
 use mathlib.Core.Path.{_≡_, ap, sym, subst, _∙_}
 use mathlib.Core.List.{List}
 use Prim.Native.Nat.{ℕ, _≤_}
 use lib.ListN.{length}
-use Rattle.job.specs.declared.Verdict.the-variants.{Counts, Refused}
+use Rattle.job.specs.declared.Verdict.the-variants.{Counts}
 use Rattle.job.specs.declared.Reading.{Reading}
 use Rattle.job.specs.Job.{Job}
-use Rattle.job.specs.Read.{Answer, accepted, refused, readJob, readingOf}
+use Rattle.job.specs.Read.{accepted, readJob, readingOf}
 use Rattle.job.specs.Write.{heldJob}
 use Rattle.job.specs.Accepted.{Accepted, accepted-job, counted, arrays}
 use Rattle.job.specs.RoundTrip.{read-held}
-use Rattle.job.specs.Laws.Tests.{never}
 use Rattle.etf.specs.Topology.{cost, square}
 use Rattle.schedule.specs.Pass.{InArrays}
-
--- a refused file
-pub refused-is : (a : Answer) {k : ℕ} → readingOf a .verdict ≡ Refused k → a ≡ refused k
-unfolding readingOf
-refused-is (accepted j) e = let z : false ≡ true = cc in never z
-refused-is (refused n) e = cc
 
 -- an accepted file: the job, held in the arrays of its reading x
 pub record Read (file : List ℕ) (x : Reading) (m l : ℕ) : Type 0 where

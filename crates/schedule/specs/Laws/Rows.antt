@@ -6,9 +6,8 @@ use Prim.Native.Nat.{ℕ, zero, suc, _+_, _-_, _≤_, _<_}
 use native.Mathlib.Numerals.{add-one}
 use native.Mathlib.Omega.{arith}
 use lib.Dec.{T as Holds}
-use Rattle.job.specs.Write.{values}
-use Rattle.etf.specs.Lists.{any}
-use Rattle.etf.specs.Laws.Tests.{or-left, or-right, or-cases, le-or-lt}
+use Rattle.base.specs.Lists.{values, any}
+use Rattle.base.specs.Laws.Tests.{or-left, or-right, or-cases, le-or-lt}
 use Rattle.schedule.specs.Pass.{someIn}
 
 module _ (f : ℕ → Bool) where

@@ -9,19 +9,17 @@ use native.Mathlib.Omega.{arith}
 use lib.Dec.{ltb, ltb→lt, lt→ltb, nltb→le}
 use lib.Dec.{T as Holds}
 use lib.ListN.{getD}
-use Rattle.job.specs.Number.{pick}
-use Rattle.job.specs.Write.{values}
-use Rattle.job.specs.Laws.Values.{map-values}
-use Rattle.etf.specs.Lists.{_∈_, upto, filter, keep, best}
+use Rattle.base.specs.Choice.{pick}
+use Rattle.base.specs.Lists.{values, _∈_, upto, filter, keep, best}
+use Rattle.base.specs.Laws.Tests.{fails, pick-yes, pick-no}
+use Rattle.base.specs.Laws.Lists.{map-same, filter-of, upto-of, flatMap-of, map-of, Best, nothing, found, best-is, by-least}
+use Rattle.base.specs.Laws.Values.{map-values, upto-values}
 use Rattle.etf.specs.Instance.{Instance, tasks}
 use Rattle.etf.specs.Schedule.{Placement, arrival}
 use Rattle.etf.specs.Rule.{ready, pair, pairs, choice}
 use Rattle.etf.specs.Rule.{free as isFree}
-use Rattle.etf.specs.Laws.Tests.{fails, pick-yes, pick-no}
-use Rattle.etf.specs.Laws.Lists.{map-same, filter-of, upto-of, flatMap-of, map-of, Best, nothing, found, best-is, by-least}
 use Rattle.schedule.specs.declared.planner.Pair.{Pair}
 use Rattle.schedule.specs.Pass.{never, noPair, pairAt, firstBest, rowOf, canStart, searched}
-use Rattle.schedule.specs.Laws.Lists.{upto-values}
 use Rattle.schedule.specs.Laws.Progress.{pairOf}
 
 -- a placement, as the planner holds it

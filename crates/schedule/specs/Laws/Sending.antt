@@ -8,11 +8,12 @@ use native.Mathlib.Omega.{arith}
 use lib.Dec.{leb, eqb, leb→le, le→leb, eqb→eq}
 use lib.Dec.{T as Holds}
 use lib.ListN.{getD}
-use Rattle.job.specs.Number.{pick}
-use Rattle.etf.specs.Laws.Sums.{sum, one-if, one-if-yes, one-if-no}
-use Rattle.etf.specs.Laws.Tests.{both, first, second, fails, eq→eqb, pick-yes, pick-no, le-or-lt}
-use Rattle.schedule.specs.Pass.{most, Raised, sentTo}
-use Rattle.schedule.specs.Laws.Most.{most-more, sum-more, most-none, sum-none}
+use Rattle.base.specs.Choice.{pick}
+use Rattle.base.specs.Rows.{sum, one-if, most}
+use Rattle.base.specs.Laws.Tests.{both, first, second, fails, eq→eqb, pick-yes, pick-no, le-or-lt}
+use Rattle.base.specs.Laws.Sums.{one-if-yes, one-if-no}
+use Rattle.base.specs.Laws.Most.{most-more, sum-more, most-none, sum-none}
+use Rattle.schedule.specs.Pass.{Raised, sentTo}
 
 module _ (to : List ℕ) (a T : ℕ) where
   sent-here : (k : ℕ) → a ≤ k → getD to k 0 ≡ T → Holds (sentTo to a T k)

@@ -10,10 +10,12 @@ use native.Mathlib.Omega.{arith}
 use lib.Dec.{ltb, nltb→le}
 use lib.Dec.{T as Holds}
 use lib.ListN.{getD}
+use Rattle.base.specs.Lists.{_∈_, upto}
+use Rattle.base.specs.Laws.Tests.{not-both, fails, le-or-lt}
+use Rattle.base.specs.Laws.Lists.{any-of, filter-in, upto-in, Best, nothing, found, best-is, by-least}
 use Rattle.job.specs.declared.Platform.{Platform}
 use Rattle.job.specs.Job.{Job}
 use Rattle.job.specs.Write.{heldJob}
-use Rattle.etf.specs.Lists.{_∈_, upto}
 use Rattle.etf.specs.Instance.{Instance, WellFormed, tasks, duration}
 use Rattle.etf.specs.Schedule.{Placement, placementOf, finish}
 use Rattle.etf.specs.Rule.{planned}
@@ -21,12 +23,10 @@ use Rattle.etf.specs.Cover.{busy, idle, someIdle, latestIdleTick, lowestIdle}
 use Rattle.etf.specs.Checker.{Apart}
 use Rattle.etf.specs.OfJob.{instance}
 use Rattle.etf.specs.Jobs.{no-finish-passes}
-use Rattle.etf.specs.Laws.Tests.{not-both, fails, le-or-lt}
-use Rattle.etf.specs.Laws.Lists.{any-of, filter-in, upto-in, Best, nothing, found, best-is, by-least}
-use Rattle.etf.specs.Laws.Sums.{running-of}
+use Rattle.etf.specs.Laws.Running.{running-of}
 use Rattle.etf.specs.Laws.Placements.{busy-in, busy-of}
 use Rattle.etf.specs.Laws.Ticks.{placement-once}
-use Rattle.etf.specs.Laws.Idle.{idle-of, idle-in, LatestIdleTick, never, at, latest-idle-tick}
+use Rattle.etf.specs.Laws.Idle.{idle-of, idle-in, LatestIdleTick, no-tick, at, latest-idle-tick}
 use Rattle.etf.specs.Laws.Planned.{apart-pairs, sound-plan, home, on-processor}
 use Rattle.schedule.specs.Plan.{startOf, processorOf}
 use Rattle.schedule.specs.Pass.{InArrays}
@@ -53,7 +53,7 @@ module _ (I : Instance) (ps : List Placement) where
   none-latest s f = go (latestIdleTick I ps s) (latest-idle-tick I ps s)
     where
       go : (o : Option ℕ) → LatestIdleTick I ps s o → o ≡ none
-      go o (never z) = refl
+      go o (no-tick z) = refl
       go o (at t h b z) = absurd (not-both (someIdle I ps t) (not-short t (λ P p. f P t p h)) b)
 
   -- a short tick before s is the latest, if each processor is busy in each tick between
@@ -68,7 +68,7 @@ module _ (I : Instance) (ps : List Placement) where
       same r k c z (inr x) q = absurd (not-both (someIdle I ps t) (z t x h) b)
 
       go : (o : Option ℕ) → LatestIdleTick I ps s o → o ≡ some t
-      go o (never z) = absurd (not-both (someIdle I ps t) (z t h) b)
+      go o (no-tick z) = absurd (not-both (someIdle I ps t) (z t h) b)
       go o (at r k c z) = ap some (same r k c z (le-or-lt t r) (le-or-lt r t))
 
   -- an idle processor is the lowest, if each lower one is busy

@@ -6,11 +6,11 @@ use Prim.Native.Nat.{ℕ, zero, suc, _-_, _≤_, _<_}
 use native.Mathlib.Omega.{arith}
 use borrow.Author.Tests.{le-ltb}
 use lib.ListN.{getD}
-use Rattle.job.specs.Number.{pick}
-use Rattle.etf.specs.Lists.{_∈_, here, there}
+use Rattle.base.specs.Choice.{pick}
+use Rattle.base.specs.Lists.{_∈_, here, there}
+use Rattle.base.specs.Laws.Values.{for-values}
 use Rattle.schedule.specs.declared.planner.Pair.{Pair}
 use Rattle.schedule.specs.Pass.{pairAt, firstBest, rowOf, canStart, searched}
-use Rattle.schedule.specs.Laws.Lists.{for-values}
 
 -- ---- the first of smallest start
 

@@ -8,12 +8,12 @@ use native.Mathlib.Omega.{arith}
 use lib.Dec.{leb, le→leb, leb→le}
 use lib.Dec.{T as Holds}
 use lib.ListN.{length, getD}
-use Rattle.etf.specs.Lists.{_∈_}
+use Rattle.base.specs.Lists.{_∈_}
+use Rattle.base.specs.Laws.Tests.{not-both, fails, pick-yes, pick-no}
 use Rattle.etf.specs.Instance.{Instance, WellFormed}
 use Rattle.etf.specs.Schedule.{Placement, finish}
 use Rattle.etf.specs.Rule.{State, atMost, move, settle, nextMoment, choice, complete, round}
-use Rattle.etf.specs.Laws.Tests.{not-both, fails, pick-yes, pick-no}
-use Rattle.etf.specs.Laws.Turn.{Put, Tick, Turn, rest, put, tick, stuck, turn, Next, endless, at, next-is}
+use Rattle.etf.specs.Laws.Turn.{NewPlacement, Tick, Turn, rest, put, tick, stuck, turn, Next, endless, at, next-is}
 use Rattle.etf.specs.Laws.Rounds.{none-stuck}
 use Rattle.schedule.specs.Pass.{never}
 use Rattle.schedule.specs.Laws.Progress.{state, neverOr, pairOf}
@@ -30,12 +30,12 @@ module _ (I : Instance) (W : WellFormed I) (cm : ℕ) (ps : List Placement) (h :
   one-more : (x y : ℕ) (u : Placement) → state x (u ∷ ps) ≡ state y ps → ⊥
   one-more x y u e = absurd (omega (arith, ap (λ (s : State). length (s .placements)) e))
 
-  put-of : (u : Placement) → round I (state cm ps) ≡ state cm (u ∷ ps) → Put I cm ps u
+  put-of : (u : Placement) → round I (state cm ps) ≡ state cm (u ∷ ps) → NewPlacement I cm ps u
   put-of u e = go (round I (state cm ps)) (turn I W cm ps) e
     where
-      go : (s : State) → Turn I cm ps s → s ≡ state cm (u ∷ ps) → Put I cm ps u
+      go : (s : State) → Turn I cm ps s → s ≡ state cm (u ∷ ps) → NewPlacement I cm ps u
       go s (rest c) q = absurd (open-still c)
-      go s (put v K) q = subst (Put I cm ps) (ap (λ (t : State). getD (t .placements) 0 u) q) K
+      go s (put v K) q = subst (NewPlacement I cm ps) (ap (λ (t : State). getD (t .placements) 0 u) q) K
       go s (tick x K) q = absurd (one-more cm x u (sym q))
       go s (stuck y z) q = absurd (open-still (none-stuck I W cm ps y z))
 
@@ -60,12 +60,12 @@ module _ (I : Instance) (W : WellFormed I) (cm : ℕ) (ps : List Placement) (h :
 
   -- a choice that starts no later than the next moment is placed
   pub placing : pairOf (choice I cm ps) .start ≤ neverOr (nextMoment I cm ps)
-      → (u : Placement) × (pairOf (choice I cm ps) ≡ pairOf (some u)) × (round I (state cm ps) ≡ state cm (u ∷ ps)) × Put I cm ps u
+      → (u : Placement) × (pairOf (choice I cm ps) ≡ pairOf (some u)) × (round I (state cm ps) ≡ state cm (u ∷ ps)) × NewPlacement I cm ps u
   unfolding settle move atMost
   placing p = go (nextMoment I cm ps) (next-is I cm ps) (choice I cm ps) round-is p
     where
       go : (nm : Option ℕ) → Next I cm ps nm → (o : Option Placement) → round I (state cm ps) ≡ settle (state cm ps) nm o → pairOf o .start ≤ neverOr nm
-          → (u : Placement) × (pairOf o ≡ pairOf (some u)) × (round I (state cm ps) ≡ state cm (u ∷ ps)) × Put I cm ps u
+          → (u : Placement) × (pairOf o ≡ pairOf (some u)) × (round I (state cm ps) ≡ state cm (u ∷ ps)) × NewPlacement I cm ps u
       go nm (endless y) none e q = absurd (not-still e)
       go nm (endless y) (some u) e q = (u, refl, e, put-of u e)
       go nm (at x w a l) none e q = absurd (omega (arith, low (w .0) (w .1), w .2))

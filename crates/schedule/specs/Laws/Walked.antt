@@ -7,6 +7,9 @@ use Prim.Native.Nat.{ℕ, zero, suc, _+_, _≤_, _<_}
 use native.Mathlib.Omega.{arith}
 use borrow.Author.Tests.{lt-ltb}
 use lib.ListN.{getD}
+use Rattle.base.specs.Rows.{most}
+use Rattle.base.specs.Laws.Tests.{le-or-lt}
+use Rattle.base.specs.Laws.Filled.{filled-at, filled-length}
 use Rattle.job.specs.declared.Platform.{Platform}
 use Rattle.job.specs.Write.{heldJob}
 use Rattle.etf.specs.Instance.{Instance, tasks}
@@ -14,14 +17,12 @@ use Rattle.etf.specs.Schedule.{Placement, placementOf, messageTimeTo}
 use Rattle.etf.specs.Rule.{planned}
 use Rattle.etf.specs.Cover.{Back, latestIdleTick, lowestIdle, latestInto, back, walk, cover}
 use Rattle.etf.specs.OfJob.{instance}
-use Rattle.etf.specs.Laws.Tests.{le-or-lt}
 use Rattle.etf.specs.Laws.Back.{walk-enough}
 use Rattle.schedule.specs.declared.Covered.the-variants.{Cover}
 use Rattle.schedule.specs.Plan.{startOf, processorOf}
-use Rattle.schedule.specs.Pass.{most, edgesTo, InArrays, Room, Ran}
+use Rattle.schedule.specs.Pass.{edgesTo, InArrays, Room, Ran}
 use Rattle.schedule.specs.CoverPass.{FirstMost, Scheduled, IdleBefore, Through, Sender, reachInto, MovesBack, Moves, alongBack, HoldsPlan}
 use Rattle.schedule.specs.Laws.Given.{given, held-tasks}
-use Rattle.schedule.specs.Laws.Filled.{filled-at, filled-length}
 use Rattle.schedule.specs.Laws.Checked.{edge-fits}
 use Rattle.schedule.specs.Laws.Short.{scheduled, no-short, latest-short}
 use Rattle.schedule.specs.Laws.Moved.{no-edge-no-latest, stops-there, goes-along, last-is}

@@ -6,13 +6,14 @@ use borrow.Author.Needs.{needs}
 use Rattle.job.specs.declared.Reading.{Reading}
 use Rattle.job.specs.declared.Verdict.the-variants.{Counts, Refused}
 use Rattle.job.specs.declared.Written.{Written}
+use Rattle.job.specs.Read.{verdictNumber}
 use Rattle.job.specs.Write.{heldJob, WrittenAs}
-use Rattle.timing.specs.Timing.{readNumber, writtenNumber, heldIn, copyAnswer, copyOut, Copied}
+use Rattle.timing.specs.Timing.{writtenNumber, heldIn, copyAnswer, copyOut, Copied}
 use Rattle.timing.proofs.timing_copy.Statement.{statement}
 use Rattle.timing.proofs.timing_copy.Tie as tie
 
 module _ (x r : Reading) (e : x ≡ r) (out : List ℕ) where
-  refuses : (k n : ℕ) → x .verdict ≡ Refused k → n ≡ readNumber (x .verdict) → Copied n out r out
+  refuses : (k n : ℕ) → x .verdict ≡ Refused k → n ≡ verdictNumber (x .verdict) → Copied n out r out
   unfolding copyAnswer copyOut
   refuses k n h g = rw (← e) (record { answer = g ∙ rw h; output = rw h })
 
@@ -31,11 +32,16 @@ enum-known-verdict c = search needs
 enum-told : tie.Need-enum-told
 enum-told c = search needs
 
-read-number-requires : tie.Need-read-number-requires
-read-number-requires c κs = search needs
+number-requires : tie.Need-number-requires
+number-requires c κs = search needs
+
+wide8-requires : tie.Need-wide8-requires
+wide8-requires c κs = search needs
 
 returns : tie.Need-returns
-returns c = refuses _ _ (c .before .before .before .read .ensures) _ _ _ (c .before .enum-told .given .1) (c .read-number .ensures)
+returns c =
+    let at-told = c .before .before in
+    refuses _ _ (at-told .before .before .read .ensures) _ _ _ (at-told .enum-told .given .1) (c .wide8 .ensures .0 ∙ c .before .number .ensures)
 
 write-requires : tie.Need-write-requires
 write-requires c κs = search needs
@@ -56,7 +62,8 @@ timing-copy-spec =
     read-requires
     enum-known-verdict
     enum-told
-    read-number-requires
+    number-requires
+    wide8-requires
     returns
     write-requires
     written-number-requires

@@ -1,37 +1,52 @@
--- `timing::timing_cover` returns 9 for an output that has not two places, and else what the cover call answers and leaves, its two numbers stored in the output.
-use mathlib.Core.Path.{_≡_, refl, ap, _∙_}
+-- `timing::timing_cover` returns the reader's number or 9 for an output without two places, and else what the cover call answers and leaves, its two numbers stored in the output.
+use mathlib.Core.Path.{_≡_, refl, ap, sym, _∙_}
 use mathlib.Core.List.{List, [], _∷_}
-use Prim.Native.Nat.{ℕ, _<_}
+use Prim.Native.Nat.{ℕ, _≤_, _<_}
 use native.Mathlib.Omega.{arith}
 use borrow.Author.Needs.{needs}
-use borrow.Author.Tests.{eq-eqb, ne-eqb}
-use lib.ListN.{length, set}
+use borrow.Author.Tests.{lt-ltb, le-ltb}
+use lib.ListN.{length, set, drop}
 use lib.Seq.{lt-length-set}
+use Rattle.job.specs.declared.Reading.{Reading}
+use Rattle.job.specs.declared.Verdict.the-variants.{Counts, Refused as NotRead}
+use Rattle.job.specs.Read.{readJob, verdictNumber, readingOf}
+use Rattle.job.specs.Accepted.{counted, refused-is}
 use Rattle.schedule.specs.declared.Covered.{Covered}
 use Rattle.schedule.specs.declared.Covered.the-variants.{Cover, Refused}
 use Rattle.schedule.specs.Cover.{CoverCall, covered, coverCall}
-use Rattle.timing.specs.Timing.{refusalIn, coverReturned, withOutput, coverTimed}
+use Rattle.timing.specs.Timing.{refusalIn, coverReturned, withOutput, orNine, coverTimed}
 use Rattle.timing.proofs.timing_cover.Statement.{statement}
 use Rattle.timing.proofs.timing_cover.Tie as tie
 
-second-place : (l : List ℕ) (x : ℕ) → length l ≡ 2 → 1 < length (set l 0 x)
+second-place : (l : List ℕ) (x : ℕ) → 2 ≤ length l → 1 < length (set l 0 x)
 second-place l x e = lt-length-set l 0 x (omega (arith, e))
 
-two-places : (l : List ℕ) (x y : ℕ) → length l ≡ 2 → set (set l 0 x) 1 y ≡ x ∷ y ∷ []
+two-places : (l : List ℕ) (x y : ℕ) → 2 ≤ length l → set (set l 0 x) 1 y ≡ x ∷ y ∷ drop 2 l
 two-places [] x y e = absurd (omega (arith, e))
 two-places (a ∷ []) x y e = absurd (omega (arith, e))
-two-places (a ∷ b ∷ []) x y e = refl
-two-places (a ∷ b ∷ d ∷ l) x y e = absurd (omega (arith, e))
+two-places (a ∷ b ∷ l) x y e = refl
+
+-- what was read of the file
+module _ (file : List ℕ) {x : Reading} (e : x ≡ readingOf (readJob file)) where
+  refused-number : {k n : ℕ} → x .verdict ≡ NotRead k → n ≡ verdictNumber (x .verdict) → n ≡ orNine (readJob file)
+  unfolding orNine
+  refused-number v g =
+      let says = refused-is (readJob file) (ap (λ (r : Reading). r .verdict) (sym e) ∙ v) in
+      g ∙ (ap verdictNumber v ∙ sym (ap orNine says))
+
+  accepted-number : {m l : ℕ} → x .verdict ≡ Counts m l → 9 ≡ orNine (readJob file)
+  unfolding orNine
+  accepted-number {m} {l} v = sym (ap orNine (counted (readJob file) m l (ap (λ (r : Reading). r .verdict) (sym e) ∙ v) .1))
 
 module _ (file starts processors scratch out : List ℕ) where
-  no-places : (length out ≡ 2 → ⊥) → coverReturned 9 starts processors scratch out ≡ coverTimed file starts processors scratch out
+  no-room : (n : ℕ) → length out < 2 → n ≡ orNine (readJob file) → coverReturned n starts processors scratch out ≡ coverTimed file starts processors scratch out
   unfolding coverTimed
-  no-places h = simp (ne-eqb _ _ h)
+  no-room n h e = simp (lt-ltb (length out) 2 h) (ap (λ (k : ℕ). coverReturned k starts processors scratch out) e)
 
-  module _ {r : Covered} {s p t : List ℕ} (two : length out ≡ 2) (e : covered r s p t ≡ coverCall file starts processors scratch) where
+  module _ {r : Covered} {s p t : List ℕ} (two : 2 ≤ length out) (e : covered r s p t ≡ coverCall file starts processors scratch) where
     answers : withOutput (covered r s p t) out ≡ coverTimed file starts processors scratch out
     unfolding coverTimed
-    answers = ap (λ (c : CoverCall). withOutput c out) e ∙ simp (eq-eqb _ _ two)
+    answers = ap (λ (c : CoverCall). withOutput c out) e ∙ simp (le-ltb (length out) 2 two)
 
     refuses : (k n : ℕ) → r ≡ Refused k → n ≡ refusalIn r → coverReturned n s p t out ≡ coverTimed file starts processors scratch out
     refuses k n h g = ap (λ (q : ℕ). coverReturned q s p t out) (g ∙ rw h) ∙ rw h at answers
@@ -39,8 +54,32 @@ module _ (file starts processors scratch out : List ℕ) where
     measures : (C D : ℕ) → r ≡ Cover C D → coverReturned 0 s p t (set (set out 0 C) 1 D) ≡ coverTimed file starts processors scratch out
     measures C D h = ap (coverReturned 0 s p t) (two-places out C D two) ∙ rw h at answers
 
+read-requires : tie.Need-read-requires
+read-requires c κs = search needs
+
+enum-told : tie.Need-enum-told
+enum-told c = search needs
+
+enum-told-2 : tie.Need-enum-told-2
+enum-told-2 c = search needs
+
+number-requires : tie.Need-number-requires
+number-requires c κs = search needs
+
+wide8-requires : tie.Need-wide8-requires
+wide8-requires c κs = search needs
+
 returns : tie.Need-returns
-returns c = no-places _ _ _ _ _ (c .if1 .taken)
+returns c =
+    let at-told = c .before .before in
+    let at-read = at-told .before .before in
+    no-room _ _ _ _ _ _ (omega (arith, at-read .before .if1 .taken))
+    (refused-number _ (at-read .read .ensures) (at-told .enum-told2 .given .1) (omega (arith, c .wide8 .ensures .0, c .before .number .ensures)))
+
+returns-2 : tie.Need-returns-2
+returns-2 c =
+    let at-read = c .before .before in
+    no-room _ _ _ _ _ _ (omega (arith, at-read .before .if1 .taken)) (accepted-number _ (at-read .read .ensures) (c .enum-told .given .1))
 
 cover-requires : tie.Need-cover-requires
 cover-requires c κs = search needs
@@ -48,8 +87,8 @@ cover-requires c κs = search needs
 enum-known-covered : tie.Need-enum-known-covered
 enum-known-covered c = search needs
 
-enum-told : tie.Need-enum-told
-enum-told c = search needs
+enum-told-3 : tie.Need-enum-told-3
+enum-told-3 c = search needs
 
 cover-refusal-requires : tie.Need-cover-refusal-requires
 cover-refusal-requires c κs = search needs
@@ -63,11 +102,11 @@ same-length-2 c = search needs
 same-length-3 : tie.Need-same-length-3
 same-length-3 c = search needs
 
-returns-2 : tie.Need-returns-2
-returns-2 c =
+returns-3 : tie.Need-returns-3
+returns-3 c =
     let at-cover = c .before .before .before .before .before .before .before .before .before in
     let at-if1 = at-cover .before .before .before .before in
-    refuses _ _ _ _ _ (omega (arith, at-if1 .if1 .left)) (at-cover .cover .ensures) _ _ (c .before .enum-told .given .1) (c .cover-refusal .ensures)
+    refuses _ _ _ _ _ (omega (arith, at-if1 .if1 .left)) (at-cover .cover .ensures) _ _ (c .before .enum-told3 .given .1) (c .cover-refusal .ensures)
 
 slice-write-out : tie.Need-slice-write-out
 slice-write-out c = search needs
@@ -91,8 +130,8 @@ same-length-6 c = search needs
 same-length-7 : tie.Need-same-length-7
 same-length-7 c = search needs
 
-returns-3 : tie.Need-returns-3
-returns-3 c =
+returns-4 : tie.Need-returns-4
+returns-4 c =
     let at-cover = c .before .before .before .before .before .before .before .before .before in
     let at-if1 = at-cover .before .before .before .before in
     measures _ _ _ _ _ (omega (arith, at-if1 .if1 .left)) (at-cover .cover .ensures) _ _ (c .before .covered .given .1)
@@ -101,19 +140,25 @@ pub timing-cover-spec : {M : Type 1} → statement M
 timing-cover-spec =
     tie.close
     (tie.spec
+    read-requires
+    enum-told
+    enum-told-2
+    number-requires
+    wide8-requires
     returns
+    returns-2
     cover-requires
     enum-known-covered
-    enum-told
+    enum-told-3
     cover-refusal-requires
     same-length
     same-length-2
     same-length-3
-    returns-2
+    returns-3
     slice-write-out
     slice-write-out-2
     same-length-4
     same-length-5
     same-length-6
     same-length-7
-    returns-3)
+    returns-4)

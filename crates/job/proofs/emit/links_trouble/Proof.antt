@@ -7,8 +7,9 @@ use native.Mathlib.Omega.{arith}
 use borrow.Author.Needs.{needs}
 use borrow.Author.Tests.{eq-eqb, ne-eqb}
 use lib.ListN.{length, getD}
+use Rattle.base.specs.Lists.{values}
 use Rattle.job.specs.Job.{Edge}
-use Rattle.job.specs.Write.{values, edgeHeld}
+use Rattle.job.specs.Write.{edgeHeld}
 use Rattle.job.specs.Pass.{edge, key, linkTrouble, linksTrouble}
 use Rattle.job.proofs.emit.links_trouble.Statement.{statement}
 use Rattle.job.proofs.emit.links_trouble.Tie as tie

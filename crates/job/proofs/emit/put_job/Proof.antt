@@ -5,11 +5,13 @@ use Prim.Native.Nat.{ℕ, _+_, _*_}
 use lib.ListN.{length, getD, set, length-set}
 use lib.Seq.{sets}
 use borrow.Author.Needs.{needs}
+use Rattle.base.specs.Lists.{values}
+use Rattle.base.specs.Laws.Values.{length-values}
+use Rattle.base.specs.Laws.Stored.{flat-size, sets-append}
 use Rattle.job.specs.declared.Platform.{Platform}
 use Rattle.job.specs.Job.{Edge}
-use Rattle.job.specs.Write.{rackBytes, stepBytes, linkBytes, fileOf, values, edgeHeld, heldJob}
-use Rattle.job.specs.Laws.Values.{length-values}
-use Rattle.job.specs.Laws.Stored.{step-size, link-size, flat-size, sets-append}
+use Rattle.job.specs.Write.{rackBytes, stepBytes, linkBytes, fileOf, edgeHeld, heldJob}
+use Rattle.job.specs.Laws.Sizes.{step-size, link-size}
 use Rattle.job.proofs.emit.put_job.Statement.{statement}
 use Rattle.job.proofs.emit.put_job.Tie as tie
 

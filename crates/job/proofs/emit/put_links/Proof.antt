@@ -6,8 +6,10 @@ use native.Mathlib.Omega.{arith}
 use borrow.Author.Needs.{needs}
 use lib.ListN.{length}
 use lib.Seq.{sets}
-use Rattle.job.specs.Write.{values, edgeHeld, linkBytes}
-use Rattle.job.specs.Laws.Stored.{link-size, store-more}
+use Rattle.base.specs.Lists.{values}
+use Rattle.base.specs.Laws.Stored.{store-more}
+use Rattle.job.specs.Write.{edgeHeld, linkBytes}
+use Rattle.job.specs.Laws.Sizes.{link-size}
 use Rattle.job.proofs.emit.put_links.Statement.{statement}
 use Rattle.job.proofs.emit.put_links.Tie as tie
 

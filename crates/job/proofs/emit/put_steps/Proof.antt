@@ -6,8 +6,10 @@ use native.Mathlib.Omega.{arith}
 use borrow.Author.Needs.{needs}
 use lib.ListN.{length, getD}
 use lib.Seq.{sets}
-use Rattle.job.specs.Write.{values, stepBytes}
-use Rattle.job.specs.Laws.Stored.{step-size, store-more}
+use Rattle.base.specs.Lists.{values}
+use Rattle.base.specs.Laws.Stored.{store-more}
+use Rattle.job.specs.Write.{stepBytes}
+use Rattle.job.specs.Laws.Sizes.{step-size}
 use Rattle.job.proofs.emit.put_steps.Statement.{statement}
 use Rattle.job.proofs.emit.put_steps.Tie as tie
 

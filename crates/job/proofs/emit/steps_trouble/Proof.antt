@@ -6,7 +6,7 @@ use native.Mathlib.Omega.{arith}
 use borrow.Author.Needs.{needs}
 use borrow.Author.Tests.{eq-eqb, ne-eqb}
 use lib.ListN.{length, getD}
-use Rattle.job.specs.Write.{values}
+use Rattle.base.specs.Lists.{values}
 use Rattle.job.specs.Pass.{stepTrouble, stepsTrouble}
 use Rattle.job.proofs.emit.steps_trouble.Statement.{statement}
 use Rattle.job.proofs.emit.steps_trouble.Tie as tie

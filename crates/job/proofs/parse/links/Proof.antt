@@ -7,17 +7,19 @@ use native.Mathlib.Omega.{arith}
 use borrow.Author.Needs.{needs}
 use lib.ListN.{length, getD, take, drop, set, replicate, length-drop, length-set}
 use lib.Seq.{getD-drop, drop-drop}
+use Rattle.base.specs.Number.{number}
+use Rattle.base.specs.Lists.{values}
+use Rattle.base.specs.Laws.Values.{length-values}
 use Rattle.job.specs.declared.Platform.{Platform}
 use Rattle.job.specs.declared.parse.Pass.the-variants.{Count, Trouble}
-use Rattle.job.specs.Number.{number}
 use Rattle.job.specs.Job.{Edge}
 use Rattle.job.specs.Record.{link, kindOf, edgeIn}
 use Rattle.job.specs.Read.{Answer, refused, judged, records}
-use Rattle.job.specs.Write.{values, edgeHeld}
+use Rattle.job.specs.Write.{edgeHeld}
 use Rattle.job.specs.Pass.{LinksPassed, jobOf, edge, key, linkTrouble}
 use Rattle.job.specs.Laws.Judged.{at-record, at-end, passOr, passes, stops, Above, above-none, above-more, link-crowded, link-short, link-at, past-body}
 use Rattle.job.specs.Laws.Spare.{spare-set}
-use Rattle.job.specs.Laws.Values.{length-values, edges-set}
+use Rattle.job.specs.Laws.Columns.{edges-set}
 use Rattle.job.proofs.parse.links.Statement.{statement}
 use Rattle.job.proofs.parse.links.Tie as tie
 

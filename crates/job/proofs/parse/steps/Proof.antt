@@ -8,9 +8,9 @@ use native.Mathlib.Omega.{arith}
 use borrow.Author.Needs.{needs}
 use lib.ListN.{length, getD, take, drop, set, replicate, length-drop, length-set}
 use lib.Seq.{length-take-le}
+use Rattle.base.specs.Number.{number}
 use Rattle.job.specs.declared.Platform.{Platform}
 use Rattle.job.specs.declared.parse.Pass.the-variants.{Count, Trouble}
-use Rattle.job.specs.Number.{number}
 use Rattle.job.specs.Record.{step, kindOf, durationIn}
 use Rattle.job.specs.Read.{judged, records}
 use Rattle.job.specs.Pass.{StepsPassed, jobOf, stepTrouble}

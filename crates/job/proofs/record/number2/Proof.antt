@@ -1,50 +1,35 @@
--- `record::number2`: the bytes, one after the other, are the number of the definition.
+-- `record::number2`: the bytes at the place are those that the definition takes.
 use denote.Ref.{now}
-use native.Mathlib.Omega.{arith}
-use Rattle.job.specs.Laws.Number.{number-2}
+use mathlib.Core.Path.{ap, sym, _∙_}
+use Rattle.base.specs.Number.{number}
+use Rattle.base.specs.Laws.Number.{two-at}
 use borrow.Author.Needs.{needs}
 use Rattle.job.proofs.record.number2.Statement.{statement}
 use Rattle.job.proofs.record.number2.Tie as tie
 
-shared-slice-read-wide : tie.Need-shared-slice-read-wide
-shared-slice-read-wide c = search needs
+shared-slice-read-number2 : tie.Need-shared-slice-read-number2
+shared-slice-read-number2 c = search needs
 
-wide-requires : tie.Need-wide-requires
-wide-requires c κs = search needs
+add-number2 : tie.Need-add-number2
+add-number2 c = search needs
 
-add-wide : tie.Need-add-wide
-add-wide c = search needs
+shared-slice-read-number2-2 : tie.Need-shared-slice-read-number2-2
+shared-slice-read-number2-2 c = search needs
 
-shared-slice-read-wide-2 : tie.Need-shared-slice-read-wide-2
-shared-slice-read-wide-2 c = search needs
-
-wide-requires-2 : tie.Need-wide-requires-2
-wide-requires-2 c κs = search needs
-
-mul-result : tie.Need-mul-result
-mul-result c = search needs
-
-add-result : tie.Need-add-result
-add-result c = search needs
-
-cast-result : tie.Need-cast-result
-cast-result c = search needs
+number2-requires : tie.Need-number2-requires
+number2-requires c κs = search needs
 
 returns : tie.Need-returns
 returns c =
-    let e = number-2 (now (c .before .before .before .before .before .args .file)) (c .before .before .before .before .before .args .at) (c .before .before .before .before .before .pre) in
-    omega (arith, c .before .before .wide .ensures .0, c .wide2 .ensures .0)
+    let s = c .before .before .before .before in
+    c .number2 .ensures ∙ ap number (sym (two-at (now (s .args .file)) (s .args .at) (s .pre)))
 
 pub number2-spec : {M : Type 1} → statement M
 number2-spec =
     tie.close
     (tie.spec
-    shared-slice-read-wide
-    wide-requires
-    add-wide
-    shared-slice-read-wide-2
-    wide-requires-2
-    mul-result
-    add-result
-    cast-result
+    shared-slice-read-number2
+    add-number2
+    shared-slice-read-number2-2
+    number2-requires
     returns)

@@ -1,87 +1,51 @@
--- `record::number4`: the bytes, one after the other, are the number of the definition.
+-- `record::number4`: the bytes at the place are those that the definition takes.
 use denote.Ref.{now}
-use native.Mathlib.Omega.{arith}
-use Rattle.job.specs.Laws.Number.{number-4}
+use mathlib.Core.Path.{ap, sym, _∙_}
+use Rattle.base.specs.Number.{number}
+use Rattle.base.specs.Laws.Number.{four-at}
 use borrow.Author.Needs.{needs}
 use Rattle.job.proofs.record.number4.Statement.{statement}
 use Rattle.job.proofs.record.number4.Tie as tie
 
-shared-slice-read-wide : tie.Need-shared-slice-read-wide
-shared-slice-read-wide c = search needs
+shared-slice-read-number4 : tie.Need-shared-slice-read-number4
+shared-slice-read-number4 c = search needs
 
-wide-requires : tie.Need-wide-requires
-wide-requires c κs = search needs
+add-number4 : tie.Need-add-number4
+add-number4 c = search needs
 
-add-wide : tie.Need-add-wide
-add-wide c = search needs
+shared-slice-read-number4-2 : tie.Need-shared-slice-read-number4-2
+shared-slice-read-number4-2 c = search needs
 
-shared-slice-read-wide-2 : tie.Need-shared-slice-read-wide-2
-shared-slice-read-wide-2 c = search needs
+add-number4-2 : tie.Need-add-number4-2
+add-number4-2 c = search needs
 
-wide-requires-2 : tie.Need-wide-requires-2
-wide-requires-2 c κs = search needs
+shared-slice-read-number4-3 : tie.Need-shared-slice-read-number4-3
+shared-slice-read-number4-3 c = search needs
 
-mul-low : tie.Need-mul-low
-mul-low c = search needs
+add-number4-3 : tie.Need-add-number4-3
+add-number4-3 c = search needs
 
-add-low : tie.Need-add-low
-add-low c = search needs
+shared-slice-read-number4-4 : tie.Need-shared-slice-read-number4-4
+shared-slice-read-number4-4 c = search needs
 
-add-wide-2 : tie.Need-add-wide-2
-add-wide-2 c = search needs
-
-shared-slice-read-wide-3 : tie.Need-shared-slice-read-wide-3
-shared-slice-read-wide-3 c = search needs
-
-wide-requires-3 : tie.Need-wide-requires-3
-wide-requires-3 c κs = search needs
-
-add-wide-3 : tie.Need-add-wide-3
-add-wide-3 c = search needs
-
-shared-slice-read-wide-4 : tie.Need-shared-slice-read-wide-4
-shared-slice-read-wide-4 c = search needs
-
-wide-requires-4 : tie.Need-wide-requires-4
-wide-requires-4 c κs = search needs
-
-mul-high : tie.Need-mul-high
-mul-high c = search needs
-
-add-high : tie.Need-add-high
-add-high c = search needs
-
-mul-result : tie.Need-mul-result
-mul-result c = search needs
-
-add-result : tie.Need-add-result
-add-result c = search needs
+number4-requires : tie.Need-number4-requires
+number4-requires c κs = search needs
 
 returns : tie.Need-returns
 returns c =
-    let s = c .before .before .before .before .before .before .before .before .before in
-    let e = number-4 (now (s .args .file)) (s .args .at) (s .pre) in
-    omega (arith, c .before .before .before .before .before .before .wide .ensures .0, c .before .before .before .before .wide2 .ensures .0, c .before .before .wide3 .ensures .0, c .wide4 .ensures .0)
+    let s = c .before .before .before .before .before .before in
+    c .number4 .ensures ∙ ap number (sym (four-at (now (s .args .file)) (s .args .at) (s .pre)))
 
 pub number4-spec : {M : Type 1} → statement M
 number4-spec =
     tie.close
     (tie.spec
-    shared-slice-read-wide
-    wide-requires
-    add-wide
-    shared-slice-read-wide-2
-    wide-requires-2
-    mul-low
-    add-low
-    add-wide-2
-    shared-slice-read-wide-3
-    wide-requires-3
-    add-wide-3
-    shared-slice-read-wide-4
-    wide-requires-4
-    mul-high
-    add-high
-    mul-result
-    add-result
+    shared-slice-read-number4
+    add-number4
+    shared-slice-read-number4-2
+    add-number4-2
+    shared-slice-read-number4-3
+    add-number4-3
+    shared-slice-read-number4-4
+    number4-requires
     returns)

@@ -20,11 +20,38 @@ loop-holds : tie.Need-loop-holds Inv-loop μ-loop
 unfolding Got
 loop-holds c = (search needs, search needs, search needs, search needs, refl, refl, λ T h. absurd (omega arith))
 
-mul-number4 : tie.Need-mul-number4 Inv-loop μ-loop
-mul-number4 c = search needs
+mul-at : tie.Need-mul-at Inv-loop μ-loop
+mul-at c = search needs
+
+shared-slice-read-processors : tie.Need-shared-slice-read-processors Inv-loop μ-loop
+shared-slice-read-processors c = search needs
+
+slice-write-processors : tie.Need-slice-write-processors Inv-loop μ-loop
+slice-write-processors c = search needs
 
 add-number4 : tie.Need-add-number4 Inv-loop μ-loop
 add-number4 c = search needs
+
+shared-slice-read-number4 : tie.Need-shared-slice-read-number4 Inv-loop μ-loop
+shared-slice-read-number4 c = search needs
+
+add-number4-2 : tie.Need-add-number4-2 Inv-loop μ-loop
+add-number4-2 c = search needs
+
+shared-slice-read-number4-2 : tie.Need-shared-slice-read-number4-2 Inv-loop μ-loop
+shared-slice-read-number4-2 c = search needs
+
+add-number4-3 : tie.Need-add-number4-3 Inv-loop μ-loop
+add-number4-3 c = search needs
+
+shared-slice-read-number4-3 : tie.Need-shared-slice-read-number4-3 Inv-loop μ-loop
+shared-slice-read-number4-3 c = search needs
+
+add-number4-4 : tie.Need-add-number4-4 Inv-loop μ-loop
+add-number4-4 c = search needs
+
+shared-slice-read-number4-4 : tie.Need-shared-slice-read-number4-4 Inv-loop μ-loop
+shared-slice-read-number4-4 c = search needs
 
 number4-requires : tie.Need-number4-requires Inv-loop μ-loop
 number4-requires c κs = search needs
@@ -35,15 +62,6 @@ mul-starts c = search needs
 slice-write-starts : tie.Need-slice-write-starts Inv-loop μ-loop
 slice-write-starts c = search needs
 
-mul-processors : tie.Need-mul-processors Inv-loop μ-loop
-mul-processors c = search needs
-
-shared-slice-read-processors : tie.Need-shared-slice-read-processors Inv-loop μ-loop
-shared-slice-read-processors c = search needs
-
-slice-write-processors : tie.Need-slice-write-processors Inv-loop μ-loop
-slice-write-processors c = search needs
-
 add-t : tie.Need-add-t Inv-loop μ-loop
 add-t c = search needs
 
@@ -52,14 +70,14 @@ loop-less c = search needs
 
 loop-again : tie.Need-loop-again Inv-loop μ-loop
 loop-again c =
-    let v = c .before .before .before .loop .inv in (
+    let v = c .before .before .before .before .before .before .before .loop .inv in (
       search needs,
       search needs,
       search needs,
       search needs,
       search needs,
       search needs,
-      got-more _ _ _ _ _ (v .6) (omega arith) (omega arith) (c .before .number4 .ensures),
+      got-more _ _ _ _ _ _ _ (v .6) (omega arith) (omega arith) (omega arith) refl refl (c .number4 .ensures),
     )
 
 same-length : tie.Need-same-length Inv-loop μ-loop
@@ -81,14 +99,20 @@ get-spec =
     Inv-loop
     μ-loop
     loop-holds
-    mul-number4
+    mul-at
+    shared-slice-read-processors
+    slice-write-processors
     add-number4
+    shared-slice-read-number4
+    add-number4-2
+    shared-slice-read-number4-2
+    add-number4-3
+    shared-slice-read-number4-3
+    add-number4-4
+    shared-slice-read-number4-4
     number4-requires
     mul-starts
     slice-write-starts
-    mul-processors
-    shared-slice-read-processors
-    slice-write-processors
     add-t
     loop-less
     loop-again

@@ -1,7 +1,7 @@
 -- `encoding::put_task`: the stores, one after the other, are the task's bytes.
 use native.Mathlib.Numerals.{towards-suc}
 use lib.ListN.{length-set}
-use Rattle.job.specs.Number.{bytes}
+use Rattle.base.specs.Number.{bytes}
 use Rattle.kelvrist.specs.PlanBytes.{taskBytes}
 use borrow.Author.Needs.{needs}
 use Rattle.kelvrist.proofs.encoding.put_task.Statement.{statement}

@@ -6,9 +6,9 @@ use native.Mathlib.Omega.{arith}
 use borrow.Author.Needs.{needs}
 use lib.ListN.{length, take, drop, set, length-drop}
 use lib.Seq.{take-all}
+use Rattle.base.specs.Slices.{Put}
+use Rattle.base.specs.Laws.Put.{put-byte}
 use Rattle.listing.specs.Listing.{decimal, field}
-use Rattle.listing.specs.Pass.{Put}
-use Rattle.listing.specs.Laws.Put.{put-byte}
 use Rattle.listing.specs.Laws.Digits.{field-length}
 use Rattle.listing.proofs.put.field.Statement.{statement}
 use Rattle.listing.proofs.put.field.Tie as tie

@@ -6,9 +6,9 @@ use Prim.Native.Nat.{ℕ, _-_, _≤_}
 use native.Mathlib.Omega.{arith}
 use borrow.Author.Needs.{needs}
 use lib.ListN.{getD}
-use Rattle.schedule.specs.Pass.{most}
+use Rattle.base.specs.Rows.{most}
+use Rattle.base.specs.Laws.Most.{none-yet, one-place}
 use Rattle.schedule.specs.CoverPass.{greatestIn}
-use Rattle.schedule.specs.Laws.Chained.{none-yet, one-place}
 use Rattle.schedule.proofs.chains.greatest_cost.Statement.{statement}
 use Rattle.schedule.proofs.chains.greatest_cost.Tie as tie
 

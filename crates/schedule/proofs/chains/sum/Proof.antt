@@ -9,14 +9,13 @@ use native.Mathlib.Omega.{arith}
 use borrow.Author.Needs.{needs}
 use lib.Dec.{eqb, eqb→eq}
 use lib.ListN.{length, getD, replicate}
-use Rattle.job.specs.Number.{pick}
-use Rattle.job.specs.Laws.Lists.{zeros-at}
-use Rattle.etf.specs.Laws.Tests.{eq→eqb, fails, pick-yes, pick-no, same-or-not}
-use Rattle.schedule.specs.Pass.{most}
+use Rattle.base.specs.Choice.{pick}
+use Rattle.base.specs.Rows.{most}
+use Rattle.base.specs.Laws.Tests.{eq→eqb, fails, pick-yes, pick-no, same-or-not}
+use Rattle.base.specs.Laws.Lists.{zeros-at}
+use Rattle.base.specs.Laws.Most.{most-cut, most-more, none-yet, one-place}
 use Rattle.schedule.specs.CoverPass.{chainBy, Chained}
 use Rattle.schedule.specs.Laws.Lifted.{Lifted, lifted, unlifted}
-use Rattle.schedule.specs.Laws.Most.{most-cut, most-more}
-use Rattle.schedule.specs.Laws.Chained.{none-yet, one-place}
 use Rattle.schedule.proofs.chains.sum.Statement.{statement}
 use Rattle.schedule.proofs.chains.sum.Tie as tie
 

@@ -7,7 +7,7 @@ use native.Mathlib.Omega.{arith}
 use native.Mathlib.Numerals.{add-one}
 use borrow.Author.Needs.{needs}
 use lib.ListN.{getD}
-use Rattle.etf.specs.Laws.Tests.{le-or-lt}
+use Rattle.base.specs.Laws.Tests.{le-or-lt}
 use Rattle.schedule.specs.Pass.{First, placeTroubles}
 use Rattle.schedule.specs.Laws.Answer.{no-task-left, no-processor, too-late, well-placed}
 use Rattle.schedule.proofs.checker.misplaced.Statement.{statement}

@@ -9,7 +9,7 @@ use borrow.Author.Needs.{needs}
 use borrow.Author.Tests.{lt-ltb, le-ltb}
 use lib.ListN.{length, getD, set, replicate, length-set, getD-replicate}
 use lib.Seq.{getD-set-same, getD-set-other, ext-getD}
-use Rattle.job.specs.Laws.Number.{lt-or-ge}
+use Rattle.base.specs.Laws.Tests.{lt-or-ge}
 use Rattle.etf.specs.Topology.{square, cost}
 use Rattle.etf.specs.Laws.Costs.{square-length, row-length, square-at, square-cost}
 use Rattle.schedule.proofs.costs.square.Statement.{statement}

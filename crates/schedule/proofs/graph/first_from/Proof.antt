@@ -6,7 +6,7 @@ use Prim.Native.Nat.{ℕ, _+_, _-_, _≤_, _<_}
 use native.Mathlib.Omega.{arith}
 use borrow.Author.Needs.{needs}
 use lib.ListN.{length, getD}
-use Rattle.etf.specs.Laws.Tests.{le-or-lt}
+use Rattle.base.specs.Laws.Tests.{le-or-lt}
 use Rattle.schedule.specs.Pass.{FirstFrom}
 use Rattle.schedule.proofs.graph.first_from.Statement.{statement}
 use Rattle.schedule.proofs.graph.first_from.Tie as tie

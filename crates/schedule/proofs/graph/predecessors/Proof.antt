@@ -8,11 +8,12 @@ use borrow.Author.Needs.{needs}
 use lib.Dec.{eqb, eqb→eq}
 use lib.ListN.{length, getD, set, replicate, length-set}
 use lib.Seq.{getD-set-same, getD-set-other}
-use Rattle.job.specs.Laws.Lists.{zeros-at}
-use Rattle.etf.specs.Laws.Tests.{eq→eqb, fails, same-or-not}
-use Rattle.etf.specs.Laws.Sums.{sum, one-if, one-if-yes, one-if-no}
+use Rattle.base.specs.Rows.{sum, one-if}
+use Rattle.base.specs.Laws.Tests.{eq→eqb, fails, same-or-not}
+use Rattle.base.specs.Laws.Lists.{zeros-at}
+use Rattle.base.specs.Laws.Sums.{one-if-yes, one-if-no}
+use Rattle.base.specs.Laws.Most.{sum-more, count-most}
 use Rattle.schedule.specs.Pass.{edgesTo}
-use Rattle.schedule.specs.Laws.Most.{sum-more, count-most}
 use Rattle.schedule.proofs.graph.predecessors.Statement.{statement}
 use Rattle.schedule.proofs.graph.predecessors.Tie as tie
 

@@ -7,7 +7,7 @@ use native.Mathlib.Omega.{arith}
 use borrow.Author.Needs.{needs}
 use lib.ListN.{length, getD, set, replicate, length-set}
 use lib.Seq.{getD-set-same, getD-set-other}
-use Rattle.etf.specs.Laws.Tests.{le-or-lt}
+use Rattle.base.specs.Laws.Tests.{le-or-lt}
 use Rattle.schedule.specs.Pass.{FirstFrom, Runs}
 use Rattle.schedule.proofs.graph.runs.Statement.{statement}
 use Rattle.schedule.proofs.graph.runs.Tie as tie

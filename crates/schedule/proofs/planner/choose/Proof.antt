@@ -8,9 +8,9 @@ use native.Mathlib.Omega.{arith}
 use borrow.Author.Needs.{needs}
 use borrow.Author.Tests.{le-leb, lt-leb, eq-eqb, ne-eqb}
 use lib.ListN.{getD}
+use Rattle.base.specs.Laws.Values.{for-values}
 use Rattle.schedule.specs.declared.planner.Pair.{Pair}
 use Rattle.schedule.specs.Pass.{never, noPair, pairAt, firstBest, rowOf, canStart, searched}
-use Rattle.schedule.specs.Laws.Lists.{for-values}
 use Rattle.schedule.specs.Laws.Tried.{row-late, search-stays, search-front, search-none}
 use Rattle.schedule.proofs.planner.choose.Statement.{statement}
 use Rattle.schedule.proofs.planner.choose.Tie as tie

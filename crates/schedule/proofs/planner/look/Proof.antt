@@ -5,11 +5,11 @@ use mathlib.Core.List.{List}
 use native.Mathlib.Omega.{arith}
 use borrow.Author.Needs.{needs}
 use lib.ListN.{getD}
-use Rattle.etf.specs.Lists.{_∈_, upto}
-use Rattle.etf.specs.Laws.Lists.{upto-of, filter-of}
+use Rattle.base.specs.Lists.{_∈_, upto}
+use Rattle.base.specs.Laws.Lists.{upto-of, filter-of}
+use Rattle.base.specs.Laws.Values.{value-in}
 use Rattle.schedule.specs.declared.planner.Moment.{Moment}
 use Rattle.schedule.specs.Pass.{Surveyed, freeAmong}
-use Rattle.schedule.specs.Laws.Lists.{value-in}
 use Rattle.schedule.proofs.planner.look.Statement.{statement}
 use Rattle.schedule.proofs.planner.look.Tie as tie
 

@@ -5,14 +5,14 @@ use mathlib.Core.List.{List}
 use native.Mathlib.Omega.{arith}
 use borrow.Author.Needs.{needs}
 use lib.ListN.{getD, set}
-use Rattle.etf.specs.Laws.Sums.{sum, one-if}
+use Rattle.base.specs.Rows.{sum, one-if}
 use Rattle.schedule.specs.declared.planner.Pair.{Pair}
-use Rattle.schedule.specs.Pass.{sentTo, placedMark, Put, Sent, Skipped, Placed}
+use Rattle.schedule.specs.Pass.{sentTo, placedMark, WrittenDown, Sent, Skipped, Placed}
 use Rattle.schedule.proofs.planner.place.Statement.{statement}
 use Rattle.schedule.proofs.planner.place.Tie as tie
 
 module _ (pair : Pair) (finish : ℕ) (starts starts′ processors processors′ busy busy′ waiting waiting₁ : List ℕ)
-    (P : Put (pair .task) (pair .processor) (pair .start) finish starts starts′ processors processors′ busy busy′ waiting waiting₁) where
+    (P : WrittenDown (pair .task) (pair .processor) (pair .start) finish starts starts′ processors processors′ busy busy′ waiting waiting₁) where
   still-enough : (first last : ℕ) (to : List ℕ) → ((T : ℕ) → sum last (λ k. one-if (sentTo to first T k)) ≤ getD (set waiting (pair .task) placedMark) T 0)
       → (T : ℕ) → sum last (λ k. one-if (sentTo to first T k)) ≤ getD waiting₁ T 0
   still-enough first last to h = rw (P .waiting-are) h

@@ -7,7 +7,7 @@ use native.Mathlib.Omega.{arith}
 use borrow.Author.Needs.{needs}
 use lib.ListN.{length, getD, set, length-set}
 use lib.Seq.{getD-set-same, getD-set-other}
-use Rattle.job.specs.Laws.Number.{lt-or-ge}
+use Rattle.base.specs.Laws.Tests.{lt-or-ge}
 use Rattle.schedule.specs.Pass.{Raised}
 use Rattle.schedule.specs.Laws.Given.{message-most}
 use Rattle.schedule.proofs.planner.raise.Statement.{statement}

@@ -9,9 +9,9 @@ use borrow.Author.Needs.{scaled-fits, below-length}
 use lib.Dec.{lit<}
 use lib.ListN.{length, getD}
 use mir.Facts.{fits-below}
+use Rattle.base.specs.Laws.Lists.{zeros-at}
 use Rattle.job.specs.declared.Platform.{Platform}
 use Rattle.job.specs.Write.{heldJob}
-use Rattle.job.specs.Laws.Lists.{zeros-at}
 use Rattle.etf.specs.Instance.{Instance}
 use Rattle.etf.specs.OfJob.{instance}
 use Rattle.schedule.specs.declared.planner.Pair.{Pair}
@@ -85,6 +85,11 @@ module _ (a : tie.At-loop Inv-loop μ-loop) where
       (a .loop .clock) (a .loop .end) (a .loop .low) (a .loop .rounds)
   going = a .loop .inv _ n-is job room
 
+-- in the loop tasks remain
+module _ (q : tie.In-loop Inv-loop μ-loop) where
+  remain : q .before .loop .low < begun (q .before) .args .tasks
+  remain = omega (arith, q .loop-test .taken, going (q .before) .in-step .low-most, here (q .before) .tasks-are)
+
 -- ---- and where the look found a pair that is placed
 
 module _ (w : tie.Then1 Inv-loop μ-loop) where
@@ -104,13 +109,13 @@ module _ (w : tie.Then1 Inv-loop μ-loop) where
   in-time = omega (arith, w .if1 .taken)
 
   small : pair .task < 256
-  small = task-small (here a) (room a) (going a) (q .loop-test .taken) (at-look .look .ensures) in-time
+  small = task-small (here a) (room a) (going a) (remain q) (at-look .look .ensures) in-time
 
   processor-small : pair .processor < 16
-  processor-small = processor-below (here a) (room a) (going a) (q .loop-test .taken) (at-look .look .ensures) in-time
+  processor-small = processor-below (here a) (room a) (going a) (remain q) (at-look .look .ensures) in-time
 
   finish-low : pair .start + getD (begun a .args .durations .now) (pair .task) 0 ≤ 460000000
-  finish-low = finish-small (here a) (room a) (going a) (q .loop-test .taken) (at-look .look .ensures) in-time
+  finish-low = finish-small (here a) (room a) (going a) (remain q) (at-look .look .ensures) in-time
 
   row-long : length (getD (begun a .args .t8) (pair .processor) []) ≡ 16
   row-long = row-size (job a) (pair .processor) processor-small
@@ -146,7 +151,7 @@ look-requires : tie.Need-look-requires Inv-loop μ-loop
 look-requires c κs =
     let q = c .before .before .before .before in
     let a = q .before in
-    let more = q .loop-test .taken in (
+    let more = remain q in (
       (few-processors (here a) (room a) (going a) more, clock-small (here a) (room a) (going a) more, le-of-lt more, held-few (job a)),
       (going a .busy-size, going a .waiting-size, going a .latest-size, arrivals-room (here a) (room a) (going a) more),
     )
@@ -197,7 +202,7 @@ place-requires : tie.Need-place-requires Inv-loop μ-loop
 place-requires c κs =
     let w = c .before .before .before .before .before .before .before .before .before .before in
     let a = a w in
-    let more = q w .loop-test .taken in
+    let more = remain (q w) in
     let found = at-look w .look .ensures in
     let runs = a .before .before .runs .ensures in
     let within = run-within (here a) (room a) (going a) more found (in-time w) runs in
@@ -232,13 +237,13 @@ add-rounds : tie.Need-add-rounds Inv-loop μ-loop
 add-rounds c =
     let q = c .before .before .before .before .before .before .before .before in
     let a = q .before in
-    fits-below tt (rounds-small _ _ (more-rounds (here a) (room a) (going a) (q .loop-test .taken)) (held-few (job a)))
+    fits-below tt (rounds-small _ _ (more-rounds (here a) (room a) (going a) (remain q)) (held-few (job a)))
 
 loop-less : tie.Need-loop-less Inv-loop μ-loop
 loop-less c =
     let q = c .before .before .before .before .before .before .before .before in
     let a = q .before in
-    rounds-left _ _ (more-rounds (here a) (room a) (going a) (q .loop-test .taken))
+    rounds-left _ _ (more-rounds (here a) (room a) (going a) (remain q))
 
 loop-again : tie.Need-loop-again Inv-loop μ-loop
 loop-again c = λ p e A R.
@@ -246,7 +251,7 @@ loop-again c = λ p e A R.
     let q = looked .before .before .before .before .before in
     let X = setting A e in
     let Y = q .before .loop .inv p e A R in
-    let more = q .loop-test .taken in
+    let more = remain q in
     let found = looked .look .ensures in
     let runs = q .before .before .before .runs .ensures in
     ⊎-elim
@@ -272,7 +277,7 @@ same-length-3 : tie.Need-same-length-3 Inv-loop μ-loop
 same-length-3 c = going (c .before) .untouched .arrivals-size
 
 returns : tie.Need-returns Inv-loop μ-loop
-returns c = going-done (here (c .before)) (room (c .before)) (going (c .before)) (c .loop-test .left)
+returns c = going-done (here (c .before)) (room (c .before)) (going (c .before)) (omega (arith, c .loop-test .left))
 
 pub run-spec : {M : Type 1} → statement M
 run-spec =

@@ -7,10 +7,11 @@ use native.Mathlib.Omega.{arith}
 use borrow.Author.Needs.{needs}
 use lib.ListN.{length, getD, set}
 use lib.Seq.{getD-set-same, getD-set-other}
-use Rattle.job.specs.Number.{pick}
-use Rattle.etf.specs.Laws.Tests.{same-or-not}
-use Rattle.etf.specs.Laws.Sums.{sum, one-if, sum-grows}
-use Rattle.schedule.specs.Pass.{most, sentTo, Raised, Sent}
+use Rattle.base.specs.Choice.{pick}
+use Rattle.base.specs.Rows.{sum, one-if, most}
+use Rattle.base.specs.Laws.Tests.{same-or-not}
+use Rattle.base.specs.Laws.Sums.{sum-grows}
+use Rattle.schedule.specs.Pass.{sentTo, Raised, Sent}
 use Rattle.schedule.specs.Laws.Lifted.{Lifted, lifted, unlifted}
 use Rattle.schedule.specs.Laws.Sending.{most-unsent, sum-unsent, most-sent, most-kept, sum-sent, sum-kept, unraised}
 use Rattle.schedule.proofs.planner.send.Statement.{statement}

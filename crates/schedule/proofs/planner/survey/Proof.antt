@@ -10,10 +10,9 @@ use borrow.Author.Tests.{le-leb, lt-leb}
 use lib.Dec.{leb}
 use lib.ListN.{length, getD, set, length-set}
 use lib.Seq.{getD-set-same, getD-set-other}
-use Rattle.job.specs.Write.{values}
-use Rattle.job.specs.Laws.Values.{values-more, values-same}
-use Rattle.etf.specs.Lists.{upto, filter}
-use Rattle.etf.specs.Laws.Lists.{filter-append}
+use Rattle.base.specs.Lists.{values, upto, filter}
+use Rattle.base.specs.Laws.Lists.{filter-append}
+use Rattle.base.specs.Laws.Values.{values-more, values-same}
 use Rattle.schedule.specs.Pass.{Surveyed, soonest, freeAmong}
 use Rattle.schedule.proofs.planner.survey.Statement.{statement}
 use Rattle.schedule.proofs.planner.survey.Tie as tie

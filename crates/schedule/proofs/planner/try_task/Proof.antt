@@ -10,11 +10,11 @@ use borrow.Author.Needs.{needs}
 use borrow.Author.Tests.{lt-ltb, le-ltb}
 use lib.Dec.{ltb}
 use lib.ListN.{getD}
-use Rattle.job.specs.Number.{pick}
-use Rattle.job.specs.Write.{values}
+use Rattle.base.specs.Choice.{pick}
+use Rattle.base.specs.Lists.{values}
+use Rattle.base.specs.Laws.Values.{for-values, values-front, values-none}
 use Rattle.schedule.specs.declared.planner.Pair.{Pair}
 use Rattle.schedule.specs.Pass.{pairAt, firstBest, rowOf}
-use Rattle.schedule.specs.Laws.Lists.{for-values, values-front, values-none}
 use Rattle.schedule.specs.Laws.Tried.{firstBest-stays}
 use Rattle.schedule.proofs.planner.try_task.Statement.{statement}
 use Rattle.schedule.proofs.planner.try_task.Tie as tie

@@ -1,0 +1,6 @@
+pub mod Choice
+pub mod Number
+pub mod Lists
+pub mod Rows
+pub mod Slices
+pub mod Laws

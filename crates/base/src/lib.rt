@@ -1,0 +1,39 @@
+// Numbers of one width as numbers of another, and numbers over a byte.
+ghost use mathlib.Core.Path.{_≡_};
+ghost use mathlib.Core.List.{[], _∷_};
+ghost use Prim.Native.Nat.{_<_};
+ghost use Rattle.base.specs.Number.{number};
+
+pub fn index(x: u8) -> usize
+    ensures { λ r. ⌜ (r ≡ x) × (r < 256) ⌝ }
+{
+    x as usize
+}
+
+pub fn wide8(x: u8) -> u32
+    ensures { λ r. ⌜ (r ≡ x) × (r < 256) ⌝ }
+{
+    x as u32
+}
+
+pub fn wide16(x: u16) -> u32
+    ensures { λ r. ⌜ r ≡ x ⌝ }
+{
+    x as u32
+}
+
+// The number of 2 bytes, the low one first.
+pub fn number2(first: u8, second: u8) -> u16
+    ensures { λ r. ⌜ r ≡ number (first ∷ second ∷ []) ⌝ }
+{
+    (wide8(first) + 256 * wide8(second)) as u16
+}
+
+// The number of 4 bytes, the low one first.
+pub fn number4(first: u8, second: u8, third: u8, fourth: u8) -> u32
+    ensures { λ r. ⌜ r ≡ number (first ∷ second ∷ third ∷ fourth ∷ []) ⌝ }
+{
+    let low = wide8(first) + 256 * wide8(second);
+    let high = wide8(third) + 256 * wide8(fourth);
+    low + 65536 * high
+}

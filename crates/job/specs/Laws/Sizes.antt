@@ -1,0 +1,16 @@
+-- The lengths of the records in a file.
+use mathlib.Core.Path.{_≡_, ap}
+use Prim.Native.Nat.{ℕ, suc}
+use lib.ListN.{length}
+use Rattle.base.specs.Laws.Number.{length-bytes}
+use Rattle.job.specs.Job.{Edge}
+use Rattle.job.specs.Write.{stepBytes, linkBytes}
+
+-- a step and a link have five bytes
+pub step-size : (d : ℕ) → length (stepBytes d) ≡ 5
+unfolding stepBytes
+step-size d = ap suc (length-bytes 4 d)
+
+pub link-size : (e : Edge) → length (linkBytes e) ≡ 5
+unfolding linkBytes
+link-size e = ap (λ (n : ℕ). suc (suc (suc n))) (length-bytes 2 (e .count))
