@@ -59,20 +59,16 @@ class File:
 
     def cover_answer(self, starts, processors, scratch, output):
         """The answer of the cover call by the places of its slices."""
-        if output != 2:
-            return 9
-        return self.refusal or (9 if min(starts, processors) < len(self.plan) or scratch < SCRATCH else 0)
+        return self.refusal or (9 if min(starts, processors) < len(self.plan) or scratch < SCRATCH or output < 2 else 0)
 
 
 def some_rooms(dice, m):
-    """Places of starts, processors, scratch and output: just enough, more, then too few in one slice after the other. The output
-    has two places, no more."""
+    """Places of starts, processors, scratch and output: just enough, more, then too few in one slice after the other."""
     enough = [m, m, SCRATCH, 2]
     yield enough
-    yield [m + dice.between(1, 9), m + dice.between(1, 9), SCRATCH + dice.between(1, 9), 2]
+    yield [room + dice.between(1, 9) for room in enough]
     for slot, room in enumerate(enough):
         yield enough[:slot] + [dice.one_of([0, room - 1, dice.below(room)])] + enough[slot + 1 :]
-    yield [m, m, SCRATCH, dice.between(3, 9)]
 
 
 class Held:

@@ -62,17 +62,17 @@ pub cases-hold :
     × (planCall file-a (7 ∷ 7 ∷ 7 ∷ 8 ∷ []) (7 ∷ 7 ∷ 7 ∷ []) (replicate 4096 7) .starts ≡ 0 ∷ 0 ∷ 6 ∷ 8 ∷ [])
     × (planCall file-a (7 ∷ 7 ∷ 7 ∷ 8 ∷ []) (7 ∷ 7 ∷ 7 ∷ []) (replicate 4096 7) .processors ≡ 0 ∷ 1 ∷ 1 ∷ [])
     × (scratch-a ≡ 0 ∷ 0 ∷ 9 ∷ 6 ∷ 0 ∷ 0 ∷ 0 ∷ [])
-    -- 01: 9, "m = 2, one start place", and so for each slice
-    × (planCall apart (7 ∷ []) (7 ∷ 7 ∷ []) (8 ∷ []) ≡ called (Refused 9) (7 ∷ []) (7 ∷ 7 ∷ []) (8 ∷ []))
-    × (planCall apart (7 ∷ 7 ∷ []) (7 ∷ []) (8 ∷ []) ≡ called (Refused 9) (7 ∷ 7 ∷ []) (7 ∷ []) (8 ∷ []))
-    × (planCall apart (7 ∷ 7 ∷ []) (7 ∷ 7 ∷ []) (8 ∷ []) ≡ called (Refused 9) (7 ∷ 7 ∷ []) (7 ∷ 7 ∷ []) (8 ∷ []))
+    -- 01: 9, "m = 2, one start place", and so for each slice alone, the others long enough
+    × (planCall apart (7 ∷ []) (7 ∷ 7 ∷ []) (replicate 4096 8) ≡ called (Refused 9) (7 ∷ []) (7 ∷ 7 ∷ []) (replicate 4096 8))
+    × (planCall apart (7 ∷ 7 ∷ []) (7 ∷ []) (replicate 4096 8) ≡ called (Refused 9) (7 ∷ 7 ∷ []) (7 ∷ []) (replicate 4096 8))
+    × (planCall apart (7 ∷ 7 ∷ []) (7 ∷ 7 ∷ []) (replicate 4095 8) ≡ called (Refused 9) (7 ∷ 7 ∷ []) (7 ∷ 7 ∷ []) (replicate 4095 8))
     -- the cover call: C and the dearest chain, the slices as the planner leaves them; 9 for each slice, and the reader's number
     × (coverCall file-a (7 ∷ 7 ∷ 7 ∷ 8 ∷ []) (7 ∷ 7 ∷ 7 ∷ []) (replicate 4096 7) .answer ≡ Cover 6 6)
     × (coverCall file-a (7 ∷ 7 ∷ 7 ∷ 8 ∷ []) (7 ∷ 7 ∷ 7 ∷ []) (replicate 4096 7) .starts ≡ 0 ∷ 0 ∷ 6 ∷ 8 ∷ [])
     × (coverCall file-h (7 ∷ 7 ∷ 7 ∷ []) (7 ∷ 7 ∷ 7 ∷ []) (replicate 4096 7) .answer ≡ Cover 5 5)
-    × (coverCall apart (7 ∷ []) (7 ∷ 7 ∷ []) (8 ∷ []) ≡ covered (NotCovered 9) (7 ∷ []) (7 ∷ 7 ∷ []) (8 ∷ []))
-    × (coverCall apart (7 ∷ 7 ∷ []) (7 ∷ []) (8 ∷ []) ≡ covered (NotCovered 9) (7 ∷ 7 ∷ []) (7 ∷ []) (8 ∷ []))
-    × (coverCall apart (7 ∷ 7 ∷ []) (7 ∷ 7 ∷ []) (8 ∷ []) ≡ covered (NotCovered 9) (7 ∷ 7 ∷ []) (7 ∷ 7 ∷ []) (8 ∷ []))
+    × (coverCall apart (7 ∷ []) (7 ∷ 7 ∷ []) (replicate 4096 8) ≡ covered (NotCovered 9) (7 ∷ []) (7 ∷ 7 ∷ []) (replicate 4096 8))
+    × (coverCall apart (7 ∷ 7 ∷ []) (7 ∷ []) (replicate 4096 8) ≡ covered (NotCovered 9) (7 ∷ 7 ∷ []) (7 ∷ []) (replicate 4096 8))
+    × (coverCall apart (7 ∷ 7 ∷ []) (7 ∷ 7 ∷ []) (replicate 4095 8) ≡ covered (NotCovered 9) (7 ∷ 7 ∷ []) (7 ∷ 7 ∷ []) (replicate 4095 8))
     × (coverCall (1 ∷ 2 ∷ 0 ∷ []) (7 ∷ []) [] [] ≡ covered (NotCovered 1) (7 ∷ []) [] [])
     -- the checker: 9 for each slice; places past m are not read
     × (checkCall apart (0 ∷ []) (0 ∷ 1 ∷ []) ≡ NotChecked 9)
