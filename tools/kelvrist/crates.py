@@ -89,7 +89,7 @@ def kept(file, names):
         line = lines[i]
         function = FUNCTION.match(line)
         if function:
-            end = lines.index("}", i)
+            end = i if line.endswith("{}") else lines.index("}", i)
             if module_of(file) + function.group(1) in names:
                 out += waiting + lines[i : end + 1]
             waiting, i = [], end
