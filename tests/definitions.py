@@ -215,7 +215,8 @@ def main(words):
     for word in words:
         name, _, value = word.partition("=")
         if name not in told or value and not value.isdigit():
-            sys.exit(__doc__)
+            sys.stderr.write(__doc__)
+            sys.exit(2)
         told[name] = value
     seed = int(told["seed"] or random.randrange(10**6))
     count = int(told["jobs"] or 40)
