@@ -80,22 +80,20 @@ def cited(crates):
 
 def write_crate(crates, crate, modules):
     """A crate with these modules alone: the types of its source, no function, no law."""
-    place, inner = FOLDER / "crates" / crate, {"Lib": []}
+    place, listed = FOLDER / "crates" / crate, {}
     (place / "src").mkdir(parents=True)
     for file in sources(crates.folder(crate)):
         lines = kept(file, set()).splitlines(True)
         (place / "src" / file.name).write_text("".join(line for line in lines if not line.startswith("ghost use")))
-    for module, text in modules.items():
-        *above, name = module.split(".")
-        for depth, part in enumerate(above):
-            inner.setdefault("/".join(above[:depth]) or "Lib", []).append(part)
-        inner.setdefault("/".join(above) or "Lib", []).append(name)
+    for module in modules:
+        parts = module.split(".")
+        for depth, part in enumerate(parts):
+            listed.setdefault(".".join(parts[:depth]) or "Lib", set()).add(part)
+    lists = {module: "".join(f"pub mod {part}\n" for part in sorted(parts)) for module, parts in listed.items()}
+    for module, text in {**lists, **modules}.items():
         file = place / "specs" / (module.replace(".", "/") + ".antt")
         file.parent.mkdir(parents=True, exist_ok=True)
         file.write_text(text)
-    for module, parts in inner.items():
-        if module not in modules:
-            (place / "specs" / f"{module}.antt").write_text("".join(f"pub mod {part}\n" for part in sorted(set(parts))))
 
 
 def brought_in(modules):
