@@ -14,8 +14,12 @@
 
 libraries = target/staticlib/libkelvrist.a target/staticlib/libtiming.a
 
+# The job's name goes to the shell as it was given: nothing in it, such as a $, is for make, and no quote is for the shell.
+override JOB := $(value JOB)
+export JOB
+
 run: job-named has-rt target/bin/plan
-	@target/bin/plan <"$(JOB)"
+	@target/bin/plan <"$$JOB"
 
 test:
 	@tests/gate
@@ -48,25 +52,29 @@ definitions: has-rt has-python3
 clean:
 	@rm -rf target
 
-# What is built is proved and written again where a file of its crates is newer. What rt says goes to standard error.
-sources = crates.txt $(shell find $(1:%=crates/%) -name '*.rt' -o -name '*.antt')
-target/staticlib/libkelvrist.a: $(call sources,job etf schedule kelvrist)
-target/staticlib/libtiming.a: $(call sources,job etf schedule timing)
+# What is built is proved and written again where a file of its crates is newer. What is said of it goes to standard error.
+uses = $(shell sed -n 's/\#.*//; s/^$(1)://p' crates.txt)
+with_below = $(1) $(foreach used,$(call uses,$(1)),$(call with_below,$(used)))
+folders = $(wildcard $(addprefix crates/,$(sort $(call with_below,$(1)))))
+sources = crates.txt $(shell find $(call folders,$(1)) -name '*.rt' -o -name '*.antt')
+target/staticlib/libkelvrist.a: $(call sources,kelvrist)
+target/staticlib/libtiming.a: $(call sources,timing)
 target/staticlib/lib%.a:
-	@rt staticlib $* >&2
+	@tools/prove staticlib $* >&2
 
-target/bin/plan: $(call sources,job etf schedule listing plan)
-	@rt check plan >&2
+target/bin/plan: $(call sources,plan)
+	@tools/prove check plan >&2
 	@touch $@
 
 # What is missing is said before anything is built.
 job-named:
-	@[ -n "$(JOB)" ] || { echo "which job? for example: make run JOB=examples/a.job"; exit 2; }
-	@[ -f "$(JOB)" ] && [ -r "$(JOB)" ] || { echo "$(JOB) is no file that can be read"; exit 2; }
+	@[ -n "$$JOB" ] || { echo "which job? for example: make run JOB=examples/a.job" >&2; exit 2; }
+	@[ ! -d "$$JOB" ] || { printf '%s is a folder\n' "$$JOB" >&2; exit 2; }
+	@[ -r "$$JOB" ] || { printf '%s is no file that can be read\n' "$$JOB" >&2; exit 2; }
 
 has-rt: advice = install the Rattle kit and link its bin/rt
 has-python3: advice = install Python 3
 has-cc: advice = install a C compiler
 has-rustc: advice = install Rust
 has-rt has-python3 has-cc has-rustc: has-%:
-	@command -v $* >/dev/null 2>&1 || { echo "$* is not on the path: $(advice)"; exit 2; }
+	@command -v $* >/dev/null 2>&1 || { echo "$* is not on the path: $(advice)" >&2; exit 2; }

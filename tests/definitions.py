@@ -3,35 +3,32 @@
 
     definitions.py [seed=N] [jobs=N]     a random seed, which is printed, and 40 jobs if not told
 
-It writes a crate `held` below target/definitions with a theorem a job, each by computing the definitions: the plan, its end, C,
-the dearest chain, the rounds, the arrivals and the square of costs, and the checker's answers to some plans. `rt dev` then
-says which do not hold. What is expected is by tests/reference/etf.py alone.
+It copies the definitions, and what they cite in the crates below, to target/definitions: no law, no theorem and no function, so
+that a changed definition can be tried before the laws are mended. Beside them it writes a crate `held` with a theorem a job, each
+by computing the definitions: the plan, its end, C, the dearest chain, the rounds, the arrivals and the square of costs, and the
+checker's answers to some plans. `rt dev` then says which do not hold. What is expected is by tests/reference/etf.py alone.
+
+Status 1: the definitions and the reference differ. Status 2: they cannot be compared, as a definition does not check.
 """
-import os
 import random
-import subprocess
+import re
+import shutil
 import sys
 from pathlib import Path
 
 TOP = Path(__file__).resolve().parent.parent
-sys.path.insert(0, str(TOP / "tests" / "reference"))
+sys.path[:0] = [str(TOP / "tests" / "reference"), str(TOP / "tools")]
 sys.dont_write_bytecode = True
 import etf  # noqa: E402
+from kelvrist.crates import Crates, kept, rt, sources  # noqa: E402
+from kelvrist.inout import Trouble  # noqa: E402
 
 FOLDER = TOP / "target" / "definitions"
-LISTS = "upto any all filter greatest keep best"
-RULE = "atMost move settle nextMoment free finished ready pair pairs choice complete round run planned roundsIn rounds"
-NAMES = {
-    "Lists": LISTS,
-    "Instance": "duration into messageTime",
-    "Schedule": "placed placementOf messageTimeTo arrival end scheduleOf byTask",
-    "Rule": RULE,
-    "Cover": "running busy idle someIdle latestIdleTick lowestIdle later latestInto back walk lastTask cover",
-    "Dearest": "greatestCost dearestTo dearest",
-    "Checker": "firstAnswer misplaced overlap early check",
-    "Topology": "hypercubeHops difference ringHops hops cost square",
-    "OfJob": "instance",
-}
+CRATE = "etf"
+MODULES = "Instance Schedule Rule Cover Dearest Checker Topology OfJob".split()  # those of CRATE; what they cite is found
+CITED = re.compile(r"^(?:pub )?use Rattle·(\w+?)(?:·specs)?\.specs\.([\w.]+)\.\{", re.M)
+COMPUTES = re.compile(r"^ *unfoldable pub (\S+) :", re.M)
+OWN = "none some bind orElse refl map flatMap getD tasks finish link job numberOf seen checked".split()  # those of HEAD
 HEAD = """-- Made by tests/definitions.py.
 use mathlib.Core.Option.{{Option, none, some, bind, orElse}}
 use mathlib.Core.Path.{{_≡_, refl}}
@@ -39,9 +36,9 @@ use mathlib.Core.List.{{List, [], _∷_, _++_, map, flatMap}}
 use Prim.Native.Nat.{{ℕ}}
 use lib.ListN.{{getD}}
 use Rattle.job.specs.Job.{{Edge, Job}}
-{uses}
 use Rattle.etf.specs.Instance.{{Instance, tasks}}
 use Rattle.etf.specs.Schedule.{{Placement, finish}}
+{uses}
 
 abbrev link : ℕ → ℕ → ℕ → Edge
 link a b k = record {{ from = a; to = b; count = k }}
@@ -56,12 +53,62 @@ numberOf (some k) = k
 seen : Instance → List (List ℕ)
 seen I =
     map (λ (u : Placement). u .task ∷ u .processor ∷ u .start ∷ finish I u ∷ []) (byTask I (planned I))
-    ++ ((end I (planned I) ∷ cover I ∷ dearest I ∷ rounds I ∷ []) ∷ map (λ T. map (λ P. arrival I (planned I) T P) (upto (I .processors))) (upto (tasks I)))
+    ++ ((end I (planned I) ∷ cover I ∷ dearest I ∷ rounds I ∷ [])
+    ∷ map (λ T. map (λ P. arrival I (planned I) T P) (upto (I .processors))) (upto (tasks I)))
 
 checked : Instance → List ℕ → List ℕ → ℕ
 checked I ps ss = numberOf (check I (scheduleOf I (λ T. getD ps T 0) (λ T. getD ss T 0)))
 """
 
+
+# ---- the definitions
+
+def cited(crates):
+    """The text of each module that the definitions are made of, by crate and name: those that hold them and all that these cite."""
+    found, todo = {}, [(CRATE, module) for module in MODULES]
+    while todo:
+        crate, module = todo.pop()
+        if (crate, module) in found or module.startswith("declared."):  # what is declared in src/ has no file
+            continue
+        file = crates.folder(crate) / "specs" / (module.replace(".", "/") + ".antt")
+        if not file.is_file():
+            raise Trouble(f"{file.relative_to(TOP)} is no file")
+        found[crate, module] = file.read_text()
+        todo += CITED.findall(found[crate, module])
+    return found
+
+
+def write_crate(crates, crate, modules):
+    """A crate with these modules alone: the types of its source, no function, no law."""
+    place, listed = FOLDER / "crates" / crate, {}
+    (place / "src").mkdir(parents=True)
+    for file in sources(crates.folder(crate)):
+        lines = kept(file, set()).splitlines(True)
+        (place / "src" / file.name).write_text("".join(line for line in lines if not line.startswith("ghost use")))
+    for module in modules:
+        parts = module.split(".")
+        for depth, part in enumerate(parts):
+            listed.setdefault(".".join(parts[:depth]) or "Lib", set()).add(part)
+    lists = {module: "".join(f"pub mod {part}\n" for part in sorted(parts)) for module, parts in listed.items()}
+    for module, text in {**lists, **modules}.items():
+        file = place / "specs" / (module.replace(".", "/") + ".antt")
+        file.parent.mkdir(parents=True, exist_ok=True)
+        file.write_text(text)
+
+
+def brought_in(modules):
+    """The lines that bring in each name that computes, and the names: those of CRATE as they are, one that is taken by another."""
+    uses, names = [], []
+    for (crate, module), text in sorted(modules.items(), key=lambda one: (one[0][0] != CRATE, one[0])):
+        some = COMPUTES.findall(text)
+        here = [name if name not in (*OWN, *names) else f"{name}-{crate}-{module.replace('.', '-')}" for name in some]
+        named = [name if name == as_here else f"{name} as {as_here}" for name, as_here in zip(some, here)]
+        uses += [f"use Rattle.{crate}.specs.{module}.{{{', '.join(named)}}}"] if named else []
+        names += here
+    return uses, names
+
+
+# ---- the theorems
 
 def numbers(values):
     return "(" + " ∷ ".join([str(v) for v in values] + ["[]"]) + ")"
@@ -93,7 +140,7 @@ def some_plans(dice, job, plan):
         yield boards, starts
 
 
-def theorem(i, dice):
+def theorem(i, dice, names):
     job = some_job(dice)
     plan = etf.plan(job)
     m, n = len(job.steps), job.boards
@@ -103,16 +150,62 @@ def theorem(i, dice):
     lines.append((plan.end, etf.cover(job, plan), etf.dearest(job), plan.rounds))
     lines += [plan.arrival[16 * t : 16 * t + n] for t in range(m)]
     costs = [[etf.cost(job, p, q) if p < n and q < n else 0 for q in range(16)] for p in range(16)]
-    everything = " ".join(NAMES.values())
-    text += [f"plan-{i} : seen (instance job-{i}) ≡ {rows(lines)}", f"unfolding seen bind flatMap {everything}", f"plan-{i} = refl", ""]
-    text += [f"square-{i} : square (job-{i} .platform .processors) (cost (job-{i} .platform)) ≡ {rows(costs)}", f"unfolding {NAMES['Topology']} {LISTS}", f"square-{i} = refl", ""]
+    text += [f"plan-{i} : seen (instance job-{i}) ≡ {rows(lines)}", f"unfolding seen bind flatMap {names}", f"plan-{i} = refl", ""]
+    text += [f"square-{i} : square (job-{i} .platform .processors) (cost (job-{i} .platform)) ≡ {rows(costs)}"]
+    text += [f"unfolding {names}", f"square-{i} = refl", ""]
     found = []
     for k, (boards, starts) in enumerate(some_plans(dice, job, plan)):
         answer = etf.check(job, boards, starts)
         found.append(answer)
         text += [f"check-{i}-{k} : checked (instance job-{i}) {numbers(boards)} {numbers(starts)} ≡ {answer}"]
-        text += [f"unfolding checked orElse {everything}", f"check-{i}-{k} = refl", ""]
+        text += [f"unfolding checked orElse {names}", f"check-{i}-{k} = refl", ""]
     return "\n".join(text), found
+
+
+def write(count, dice):
+    """Writes the crates. Gives how many lines of Held.antt stand before its theorems, and the answers that the plans get."""
+    crates = Crates()
+    needed = [*crates.below(CRATE), CRATE]
+    modules = cited(crates)
+    uses, names = brought_in(modules)
+    head = HEAD.format(uses="\n".join(uses))
+    made = [theorem(i, dice, " ".join(names)) for i in range(count)]
+    shutil.rmtree(FOLDER / "crates", ignore_errors=True)
+    for crate in needed:
+        write_crate(crates, crate, {module: text for (of, module), text in modules.items() if of == crate})
+    held = FOLDER / "crates" / "held"
+    for folder in (held / "src", held / "specs"):
+        folder.mkdir(parents=True)
+    (FOLDER / "crates.txt").write_text("".join(crates.line[crate] + "\n" for crate in needed) + f"held: {' '.join(needed)}\n")
+    (held / "src" / "lib.rt").write_text("// No functions.\n")
+    (held / "specs" / "Lib.antt").write_text("pub mod Held\n")
+    (held / "specs" / "Held.antt").write_text(head + "\n" + "\n".join(text for text, _ in made))
+    return head.count("\n"), [answer for _, found in made for answer in found]
+
+
+# ---- what rt says of them
+
+def stop(status, what, errors):
+    """Ends the program with a line on what is wrong, after the first errors."""
+    for error in errors[:5]:
+        print(error.replace(f"{FOLDER}/", "")[:500], file=sys.stderr)
+    print(what, file=sys.stderr)
+    sys.exit(status)
+
+
+def judge(status, said, head):
+    """Ends the program where the theorems are not proved: for a definition that does not check, or for a difference."""
+    errors = [line for line in said.splitlines() if re.search(r": error\b", line)]
+    unproved = re.search(r"^rt: (\w+) NOT PROVED", said, re.M)
+    if unproved:
+        stop(2, f"cannot compare: the definitions in crate {unproved.group(1)} do not check", errors)
+    if status == 0 and "logic=proved" in said:
+        return
+    places = [re.search(r"Held\.antt:(\d+):", error) for error in errors]
+    if "logic=not-proved" not in said or not all(places) or any(int(place.group(1)) <= head for place in places):
+        stop(2, "cannot compare: crate held, which this test writes, does not check", errors or said.splitlines()[-5:])
+    where = (FOLDER / "crates" / "held" / "specs" / "Held.antt").relative_to(TOP)
+    stop(1, f"the definitions and the reference differ in {len(errors)} theorems of {where}", errors)
 
 
 def main(words):
@@ -120,31 +213,17 @@ def main(words):
     for word in words:
         name, _, value = word.partition("=")
         if name not in told or value and not value.isdigit():
-            sys.exit(__doc__)
+            sys.stderr.write(__doc__)
+            sys.exit(2)
         told[name] = value
     seed = int(told["seed"] or random.randrange(10**6))
     count = int(told["jobs"] or 40)
-    dice = random.Random(seed)
     print(f"seed {seed}, {count} jobs", flush=True)
-    uses = "\n".join(f"use Rattle.etf.specs.{file}.{{{', '.join(names.split())}}}" for file, names in NAMES.items())
-    made = [theorem(i, dice) for i in range(count)]
-    crate = FOLDER / "crates" / "held"
-    for folder in (crate / "src", crate / "specs"):
-        folder.mkdir(parents=True, exist_ok=True)
-    for name in ("job", "etf"):
-        place = FOLDER / "crates" / name
-        if not place.is_symlink():
-            os.symlink(TOP / "crates" / name, place)
-    (FOLDER / "crates.txt").write_text("job:\netf: job\nheld: job etf\n")
-    (crate / "src" / "lib.rt").write_text("// No functions.\n")
-    (crate / "specs" / "Lib.antt").write_text("pub mod Held\n")
-    (crate / "specs" / "Held.antt").write_text(HEAD.format(uses=uses) + "\n" + "\n".join(text for text, _ in made))
-    run = subprocess.run(["rt", "dev", "held"], cwd=FOLDER, capture_output=True, text=True)
-    output = run.stdout + run.stderr
-    if run.returncode != 0 or "logic=proved" not in output:
-        print("\n".join(line for line in output.splitlines() if "error" in line) or output)
-        sys.exit(f"the definitions and the reference differ; the theorems are in {crate.relative_to(TOP)}/specs/Held.antt")
-    answers = [a for _, found in made for a in found]
+    try:
+        head, answers = write(count, random.Random(seed))
+        judge(*rt("dev", "held", folder=FOLDER), head)
+    except Trouble as trouble:
+        stop(2, f"cannot compare: {trouble}", [])
     tally = ", ".join(f"{a}: {answers.count(a)}" for a in sorted(set(answers)))
     print(f"the definitions agree with the reference on {count} jobs and {len(answers)} plans (answers {tally})")
 
