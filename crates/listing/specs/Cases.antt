@@ -1,8 +1,7 @@
 -- What is printed for inputs of document 01: its case A from the file's bytes to the text, and a refusal, held to the definitions by computing them.
 use mathlib.Core.Option.{orElse, bind}
 use mathlib.Core.Path.{_≡_, refl}
-use mathlib.Core.List.{List, [], _∷_, flatMap}
-use Prim.Native.Nat.{ℕ}
+use mathlib.Core.List.{[], _∷_, flatMap}
 use Rattle.base.specs.Number.{number}
 use Rattle.base.specs.Lists.{upto, any, all, filter, greatest, keep, best}
 use Rattle.job.specs.Job.{blank}
@@ -16,14 +15,10 @@ use Rattle.etf.specs.Cover.{running, busy, idle, someIdle, latestIdleTick, lowe
 use Rattle.etf.specs.Dearest.{greatestCost, dearestTo, dearest}
 use Rattle.etf.specs.OfJob.{instance}
 use Rattle.schedule.specs.Plan.{startOf, processorOf}
+use Rattle.schedule.specs.Cases.{file-a}
 use Rattle.listing.specs.Listing.{text, digits, decimal, field, line, header, taskLine, taskLines, figures, planListing, refusalLine, listingFor, listing}
 
--- 01: "For bytes 01 02 00 02, .." to "04"
-abbrev file-a : List ℕ
-file-a =
-    1 ∷ 2 ∷ 0 ∷ 2 ∷ 2 ∷ 4 ∷ 0 ∷ 0 ∷ 0 ∷ 2 ∷ 3 ∷ 0 ∷ 0 ∷ 0 ∷ 2 ∷ 2 ∷ 0 ∷ 0 ∷ 0 ∷ 3 ∷ 0 ∷ 2 ∷ 1 ∷ 0 ∷ 3 ∷ 1 ∷ 2 ∷ 3 ∷ 0 ∷ 4 ∷ []
-
--- "it prints" the seven lines; and nothing but its number for the file that ends too early
+-- 01: "For bytes 01 02 00 02, .." to "04" it prints the seven lines; and nothing but its number for the file that ends too early
 pub printed : (listing file-a ≡ text "plan 2 3 2\n0 0 0 4\n1 1 0 3\n2 1 6 8\nend 8\ncover 6\ndearest 6\n") × (listing (1 ∷ 2 ∷ 0 ∷ []) ≡ text "refused 1\n")
 unfolding listing listingFor refusalLine planListing figures taskLines taskLine header line field decimal digits text startOf processorOf number readJob blank records judged after kindOf bodyLength stands noRack full inRange platformInRange durationInRange countInRange endsRight joins inOrder aboveLast rises added platformIn durationIn edgeIn flatMap upto any all filter greatest keep best duration into messageTime placed placementOf messageTimeTo arrival end hops cost atMost move settle nextMoment free finished ready pair pairs choice complete round run planned running busy idle someIdle latestIdleTick lowestIdle later latestInto back walk lastTask cover greatestCost dearestTo dearest instance orElse bind
 printed = (refl, refl)

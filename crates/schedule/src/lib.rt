@@ -198,7 +198,7 @@ pub fn check(file: &[u8], starts: &[u32], processors: &[u8]) -> Checked
         starts,
         processors,
     );
-    if trouble != 0 {
+    if 0 < trouble {
         return Checked::Refused(trouble);
     }
     Checked::Yes

@@ -1,6 +1,7 @@
 -- `check` passes the reader's number on, refuses by 9 for each slice in turn, and else answers what `checker::trouble` finds.
 use Rattle.schedule.specs.Laws.Reading.{read-as, platform-fits, in-arrays}
 use Rattle.schedule.specs.Laws.Entries.{check-passes-on, check-no-starts, check-no-processors, check-trouble, check-yes}
+use native.Mathlib.Omega.{arith}
 use borrow.Author.Needs.{needs}
 use Rattle.schedule.proofs.check.Statement.{statement}
 use Rattle.schedule.proofs.check.Tie as tie
@@ -56,7 +57,7 @@ returns-4 c =
     let at-if1 = at-if2 .before in
     let at-verdict = at-if1 .before .before in
     let read = read-as (at-verdict .before .before .read .ensures) (at-verdict .verdict .given .1) in
-    check-trouble read _ _ (at-if1 .if1 .left) (at-if2 .if2 .left) (at-trouble .trouble .ensures) (c .if3 .taken)
+    check-trouble read _ _ (at-if1 .if1 .left) (at-if2 .if2 .left) (at-trouble .trouble .ensures) (λ z. omega (arith, z, c .if3 .taken))
 
 returns-5 : tie.Need-returns-5
 returns-5 c =
@@ -66,7 +67,7 @@ returns-5 c =
     let at-if1 = at-if2 .before in
     let at-verdict = at-if1 .before .before in
     let read = read-as (at-verdict .before .before .read .ensures) (at-verdict .verdict .given .1) in
-    check-yes read _ _ (at-if1 .if1 .left) (at-if2 .if2 .left) (at-trouble .trouble .ensures) (c .if3 .left)
+    check-yes read _ _ (at-if1 .if1 .left) (at-if2 .if2 .left) (at-trouble .trouble .ensures) (omega (arith, c .if3 .left))
 
 pub check-spec : {M : Type 1} → statement M
 check-spec =

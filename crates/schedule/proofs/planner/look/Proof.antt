@@ -1,6 +1,6 @@
 -- `planner::look` hands the free processors that the survey lists, each below n, on to the search.
-use Prim.Native.Nat.{ℕ, _≤_, _<_}
-use mathlib.Core.Path.{subst}
+use Prim.Native.Nat.{ℕ, _-_, _≤_, _<_}
+use mathlib.Core.Path.{_≡_, refl, ap, subst, _∙_}
 use mathlib.Core.List.{List}
 use native.Mathlib.Omega.{arith}
 use borrow.Author.Needs.{needs}
@@ -9,7 +9,8 @@ use Rattle.base.specs.Lists.{_∈_, upto}
 use Rattle.base.specs.Laws.Lists.{upto-of, filter-of}
 use Rattle.base.specs.Laws.Values.{value-in}
 use Rattle.schedule.specs.declared.planner.Moment.{Moment}
-use Rattle.schedule.specs.Pass.{Surveyed, freeAmong}
+use Rattle.schedule.specs.declared.planner.Choice.{Choice}
+use Rattle.schedule.specs.Pass.{Surveyed, soonest, freeAmong, noPair, rowOf, searched, Looked}
 use Rattle.schedule.proofs.planner.look.Statement.{statement}
 use Rattle.schedule.proofs.planner.look.Tie as tie
 
@@ -18,6 +19,18 @@ unfolding freeAmong
 free-below busy n clock free r s h i k =
     let a = subst (λ (fs : List ℕ). getD free i 0 ∈ fs) (s .listed) (value-in (λ x. getD free x 0) (r .free) i k) in
     omega (arith, upto-of n (getD free i 0) (filter-of _ (upto n) (getD free i 0) a .0))
+
+-- the survey is of the n processors, and the search goes by what it lists
+looked : {busy waiting latest arrivals free : List ℕ} {n k clock low m : ℕ} {s : Moment} {r : Choice} → Surveyed busy k clock free s → k ≡ n
+    → r .next ≡ s .next → r .pair ≡ searched clock waiting latest (rowOf clock arrivals free (s .free)) low (m - low) noPair
+    → Looked clock low m n busy waiting latest arrivals r
+looked {busy} {clock = clock} surveyed e next found = record {
+  free = _;
+  count = _;
+  next = next ∙ (surveyed .next ∙ ap (soonest busy clock) e);
+  listed = surveyed .listed ∙ ap (freeAmong busy clock) e;
+  found = found;
+}
 
 slice-aggregate-survey : tie.Need-slice-aggregate-survey
 slice-aggregate-survey c = search needs
@@ -38,16 +51,7 @@ choose-requires c κs =
     )
 
 returns : tie.Need-returns
-returns c =
-    let at-survey = c .before .before .before in
-    let surveyed = at-survey .survey .ensures in
-    record {
-      free = _;
-      count = _;
-      next = surveyed .next;
-      listed = surveyed .listed;
-      found = c .choose .ensures;
-    }
+returns c = looked (c .before .before .before .survey .ensures) (omega arith) refl (c .choose .ensures)
 
 pub look-spec : {M : Type 1} → statement M
 look-spec =

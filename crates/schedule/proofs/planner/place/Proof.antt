@@ -1,6 +1,6 @@
 -- `planner::place` writes the pair down, sends along the task's edges and skips the placed tasks: its promise is the three promises together.
 use Prim.Native.Nat.{ℕ, _≤_}
-use mathlib.Core.Path.{_∙_}
+use mathlib.Core.Path.{_≡_, _∙_}
 use mathlib.Core.List.{List}
 use native.Mathlib.Omega.{arith}
 use borrow.Author.Needs.{needs}
@@ -27,6 +27,12 @@ module _ (pair : Pair) (finish : ℕ) (starts starts′ processors processors′
     sent = rw (P .waiting-are) at s;
     skipped = z;
   }
+
+-- what was written down is the pair
+of-pair : (pair : Pair) {T Q s f : ℕ} {starts starts′ processors processors′ busy busy′ waiting waiting₁ : List ℕ}
+    → WrittenDown T Q s f starts starts′ processors processors′ busy busy′ waiting waiting₁ → T ≡ pair .task → Q ≡ pair .processor → s ≡ pair .start
+    → WrittenDown (pair .task) (pair .processor) (pair .start) f starts starts′ processors processors′ busy busy′ waiting waiting₁
+of-pair pair W a b c = rw (a, b, c) at W
 
 put-requires : tie.Need-put-requires
 put-requires c κs = search needs
@@ -71,7 +77,9 @@ returns : tie.Need-returns
 returns c =
     let at-send = c .before .before .before .before .before .before .before .before in
     let at-put = at-send .before .before .before .before .before .before .before .before .before .before .before .before in
-    together _ _ _ _ _ _ _ _ _ _ (at-put .put .ensures) _ _ _ _ _ _ _ _ _ _ _ _ _ (at-send .send .ensures) _ (c .skip .ensures)
+    let at-start = at-put .before .before .before .before .before .before .before .before .before .before .before .before .before .before in
+    let written = of-pair (at-start .args .pair) (at-put .put .ensures) (omega arith) (omega arith) (omega arith) in
+    together _ _ _ _ _ _ _ _ _ _ written _ _ _ _ _ _ _ _ _ _ _ _ _ (at-send .send .ensures) _ (c .skip .ensures)
 
 pub place-spec : {M : Type 1} → statement M
 place-spec =
