@@ -103,7 +103,7 @@ impl Planned<'_> {
     }
 }
 
-/// Plans the job of a file into the slices: 0 with the cover and the dearest chain in `out`, or the refusal's number.
+/// Plans the job of a file into the slices: 0 with the cover and the dearest chain in the first places of `out`, or the refusal's number.
 pub fn cover(
     file: &[u8],
     starts: &mut [u32],
@@ -111,14 +111,14 @@ pub fn cover(
     scratch: &mut [u32],
     out: &mut [u32],
 ) -> u32 {
-    let [cover, dearest] = out else {
-        return 9;
-    };
     let mut reading = Reading::blank();
     job::read(file, &mut reading);
     let (tasks, edges) = match reading.verdict {
         Verdict::Counts { tasks, edges } => (tasks, edges),
         Verdict::Refused(number) => return u32::from(number),
+    };
+    let [cover, dearest, ..] = out else {
+        return 9;
     };
     let (Some(starts), Some(processors)) = (starts.get_mut(..tasks), processors.get_mut(..tasks))
     else {

@@ -69,5 +69,6 @@ void order_of_refusals(void);
 void refused_jobs(void);
 void ends_of_ranges(void);
 void plan_buffers(void);
+void bytes_unread(void);
 
 #endif

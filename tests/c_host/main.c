@@ -17,6 +17,7 @@ static const struct group {
     {"refused jobs", refused_jobs},
     {"ends of ranges", ends_of_ranges},
     {"plan buffers", plan_buffers},
+    {"bytes unread", bytes_unread},
 };
 
 uint8_t fill;

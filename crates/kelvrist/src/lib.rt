@@ -5,6 +5,7 @@ use job::Verdict;
 use schedule::Checked;
 use schedule::Planned;
 ghost use mathlib.Core.Path.{_≡_};
+ghost use Rattle.job.specs.Read.{readJob, readingOf};
 ghost use Rattle.kelvrist.specs.PlanBytes.{returned, planBytesCall, checkBytesCall};
 ghost use Rattle.kelvrist.specs.Numbers.{planNumber, checkNumber};
 
@@ -26,6 +27,14 @@ fn check_number(checked: Checked) -> u32
         Checked::Yes => 0,
         Checked::Refused(number) => base::wide8(number),
     }
+}
+
+// What the reader finds in a job's bytes. The job itself, some 5 KB, is gone from the stack when the plan is judged.
+fn verdict_on(job: &[u8]) -> Verdict
+    ensures { λ r. ⌜ r ≡ readingOf (readJob (now (job .entry))) .verdict ⌝ }
+{
+    let r = job::read(job);
+    r.verdict
 }
 
 // Plans the job of `job` into 5 bytes a task of `plan`: 0, or the refusal's number.
@@ -52,8 +61,7 @@ pub extern "C" fn kelvrist_plan(job: &[u8], plan: &mut [u8]) -> u32
 pub extern "C" fn kelvrist_check(job: &[u8], plan: &[u8]) -> u32
     ensures { λ r. ⌜ r ≡ checkBytesCall (now (job .entry)) (now (plan .entry)) ⌝ }
 {
-    let r = job::read(job);
-    let verdict = r.verdict;
+    let verdict = verdict_on(job);
     let Verdict::Counts { tasks, edges: _ } = verdict else {
         return base::wide8(job::number(verdict));
     };

@@ -5,7 +5,7 @@ use Prim.Native.Nat.{ℕ, _*_, _≤_, _<_}
 use native.Mathlib.Omega.{arith}
 use borrow.Author.Needs.{needs}
 use lib.ListN.{length, getD}
-use Rattle.job.specs.declared.Reading.{Reading}
+use Rattle.job.specs.declared.Verdict.{Verdict}
 use Rattle.job.specs.declared.Verdict.the-variants.{Counts, Refused}
 use Rattle.job.specs.Job.{Job}
 use Rattle.job.specs.Read.{accepted, readJob, verdictNumber, readingOf}
@@ -18,20 +18,20 @@ use Rattle.kelvrist.specs.Numbers.{checkNumber, check-passes-on, check-s
 use Rattle.kelvrist.proofs.kelvrist_check.Statement.{statement}
 use Rattle.kelvrist.proofs.kelvrist_check.Tie as tie
 
-module _ (file : List ℕ) {x : Reading} (e : x ≡ readingOf (readJob file)) {m l : ℕ} (v : x .verdict ≡ Counts m l) where
+module _ (file : List ℕ) {w : Verdict} (e : w ≡ readingOf (readJob file) .verdict) {m l : ℕ} (v : w ≡ Counts m l) where
   found : (j : Job) × (readJob file ≡ accepted j) × (length (j .tasks) ≡ m) × (length (j .edges) ≡ l)
-  found = counted (readJob file) m l (ap (λ (r : Reading). r .verdict) (sym e) ∙ v)
+  found = counted (readJob file) m l (sym e ∙ v)
 
   few : m ≤ 256
   few = omega (arith, found .2, accepted-job file (found .0) (found .1) .few-tasks)
 
-module _ (file plan : List ℕ) {x : Reading} (e : x ≡ readingOf (readJob file)) where
-  refuses : {k : ℕ} (n : ℕ) → x .verdict ≡ Refused k → n ≡ verdictNumber (x .verdict) → n ≡ checkBytesCall file plan
+module _ (file plan : List ℕ) {w : Verdict} (e : w ≡ readingOf (readJob file) .verdict) where
+  refuses : {k : ℕ} (n : ℕ) → w ≡ Refused k → n ≡ verdictNumber w → n ≡ checkBytesCall file plan
   refuses n v g =
-      let says = refused-is (readJob file) (ap (λ (r : Reading). r .verdict) (sym e) ∙ v) in
+      let says = refused-is (readJob file) (sym e ∙ v) in
       g ∙ (ap verdictNumber v ∙ sym (check-passes-on file plan _ says))
 
-  module _ {m l : ℕ} (v : x .verdict ≡ Counts m l) where
+  module _ {m l : ℕ} (v : w ≡ Counts m l) where
     abbrev job : (j : Job) × (readJob file ≡ accepted j) × (length (j .tasks) ≡ m) × (length (j .edges) ≡ l)
     job = found file e v
 
@@ -50,8 +50,8 @@ module _ (file plan : List ℕ) {x : Reading} (e : x ≡ readingOf (readJob file
         ∙ sym (check-number file plan (job .0) (job .1) starts processors (omega (arith, job .2)) (omega (arith, job .2, few file e v))
         (omega (arith, job .2, few file e v)) (λ T i. got T (omega (arith, job .2)))))
 
-read-requires : tie.Need-read-requires
-read-requires c κs = search needs
+verdict-on-requires : tie.Need-verdict-on-requires
+verdict-on-requires c κs = search needs
 
 enum-known-verdict : tie.Need-enum-known-verdict
 enum-known-verdict c = search needs
@@ -69,17 +69,17 @@ returns : tie.Need-returns
 returns c =
     let at-number = c .before in
     let at-told = at-number .before in
-    refuses _ _ (at-told .before .before .read .ensures) _ (at-told .enum-told .given .1) (omega (arith, c .wide8 .ensures .0, at-number .number .ensures))
+    refuses _ _ (at-told .before .before .verdict-on .ensures) _ (at-told .enum-told .given .1) (omega (arith, c .wide8 .ensures .0, at-number .number .ensures))
 
 mul-bytes : tie.Need-mul-bytes
 mul-bytes c =
     let at-verdict = c .before in
-    record { fits = omega (arith, few _ (at-verdict .before .before .read .ensures) (at-verdict .verdict .given .1)) }
+    record { fits = omega (arith, few _ (at-verdict .before .before .verdict-on .ensures) (at-verdict .verdict .given .1)) }
 
 returns-2 : tie.Need-returns-2
 returns-2 c =
     let at-verdict = c .before .before in
-    too-short _ _ (at-verdict .before .before .read .ensures) (at-verdict .verdict .given .1) (omega (arith, c .if1 .taken))
+    too-short _ _ (at-verdict .before .before .verdict-on .ensures) (at-verdict .verdict .given .1) (omega (arith, c .if1 .taken))
 
 slice-aggregate-get : tie.Need-slice-aggregate-get
 slice-aggregate-get c = search needs
@@ -91,7 +91,7 @@ get-requires : tie.Need-get-requires
 get-requires c κs =
     let at-if1 = c .before .before in
     let at-verdict = at-if1 .before .before in
-    let small = few _ (at-verdict .before .before .read .ensures) (at-verdict .verdict .given .1) in
+    let small = few _ (at-verdict .before .before .verdict-on .ensures) (at-verdict .verdict .given .1) in
     (omega (arith, small), omega (arith, small), omega (arith, at-if1 .if1 .left))
 
 slice-aggregate-check : tie.Need-slice-aggregate-check
@@ -112,7 +112,7 @@ returns-3 c =
     let at-get = at-check .before .before .before .before .before in
     let at-if1 = at-get .before .before .before in
     let at-verdict = at-if1 .before .before in
-    answers _ _ (at-verdict .before .before .read .ensures) (at-verdict .verdict .given .1) _ _ _ (omega (arith, at-if1 .if1 .left))
+    answers _ _ (at-verdict .before .before .verdict-on .ensures) (at-verdict .verdict .given .1) _ _ _ (omega (arith, at-if1 .if1 .left))
     (at-get .get .kept .1 .1 .0) (at-get .get .kept .1 .1 .1 .0) (at-get .get .ensures) (omega arith) (at-check .check .ensures)
     (c .check-number .ensures)
 
@@ -120,7 +120,7 @@ pub kelvrist-check-spec : {M : Type 1} → statement M
 kelvrist-check-spec =
     tie.close
     (tie.spec
-    read-requires
+    verdict-on-requires
     enum-known-verdict
     enum-told
     number-requires
