@@ -10,7 +10,7 @@ use Rattle.base.specs.Lists.{upto}
 unfoldable pub filled : (ℕ → ℕ) → ℕ → List ℕ → List ℕ
 filled f k old = map f (upto k) ++ drop k old
 
--- the bytes of `text` were put at place `at`, and `next` is the place after them
-pub record Put (before after : List ℕ) (at next : ℕ) (text : List ℕ) : Type 0 where
-  pub stored : after ≡ sets before at text
-  pub past : next ≡ at + length text
+-- `row` was put at place `at`, and `next` is the place after it
+pub record Put (before after : List ℕ) (at next : ℕ) (row : List ℕ) : Type 0 where
+  pub stored : after ≡ sets before at row
+  pub past : next ≡ at + length row

@@ -58,7 +58,8 @@ pub plan-in-bytes : (file plan starts processors scratch : List ℕ) → 256 ≤
 unfolding planBytesCall planCall planBytesFor planFor planAccepted
 plan-in-bytes file plan starts processors scratch a b c = go (readJob file) refl
   where
-    held : (j : Job) → tasks (instance j) ≤ 256 → planBytesFor (accepted j) plan ≡ inBytes (planFor (accepted j) starts processors scratch) plan
+    held : (j : Job) → tasks (instance j) ≤ 256
+        → planBytesFor (accepted j) plan ≡ inBytes (planFor (accepted j) starts processors scratch) plan
     held j few =
         let I = instance j in
         let same = plan-bytes-same (tasks I) (λ T. getD (filled (processorOf I) (tasks I) processors) T 0) (processorOf I)

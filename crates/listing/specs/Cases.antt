@@ -16,7 +16,8 @@ use Rattle.etf.specs.Dearest.{greatestCost, dearestTo, dearest}
 use Rattle.etf.specs.OfJob.{instance}
 use Rattle.schedule.specs.Plan.{startOf, processorOf}
 use Rattle.schedule.specs.Cases.{file-a}
-use Rattle.listing.specs.Listing.{text, digits, decimal, field, line, header, taskLine, taskLines, figures, planListing, refusalLine, listingFor, listing}
+use Rattle.listing.specs.Listing.{text, digits, decimal, field, line, header, taskLine, taskLines, figures}
+use Rattle.listing.specs.Listing.{planListing, refusalLine, listingFor, listing}
 
 -- 01: "For bytes 01 02 00 02, .." to "04" it prints the seven lines; and nothing but its number for the file that ends too early
 pub printed : (listing file-a ≡ text "plan 2 3 2\n0 0 0 4\n1 1 0 3\n2 1 6 8\nend 8\ncover 6\ndearest 6\n") × (listing (1 ∷ 2 ∷ 0 ∷ []) ≡ text "refused 1\n")

@@ -7,7 +7,8 @@ ghost use lib.ListN.{length, getD, set};
 ghost use Rattle.base.specs.Rows.{sum, one-if};
 ghost use Rattle.job.specs.Write.{heldJob};
 ghost use Rattle.etf.specs.OfJob.{instance};
-ghost use Rattle.schedule.specs.Pass.{Surveyed, Raised, Sent, Skipped, WrittenDown, Looked, Placed, placedMark, InArrays, Room, Ran, firstBest, rowOf, noPair, searched, sentTo};
+ghost use Rattle.schedule.specs.Pass.{Surveyed, Raised, Sent, Skipped, WrittenDown, Looked, Placed, placedMark, InArrays, Room, Ran};
+ghost use Rattle.schedule.specs.Pass.{firstBest, rowOf, noPair, searched, sentTo};
 
 // A task, a processor and the start that the task would have there; 4294967295 where there is none.
 pub struct Pair {
@@ -233,7 +234,11 @@ fn put(
     waiting: &mut [u16],
 )
     requires { ⌜ (task < length (now starts)) × (task < length (now processors)) × (processor < length (now busy)) × (task < length (now waiting)) × (processor < 16) ⌝ }
-    ensures { λ _. ⌜ WrittenDown task processor start finish (now (starts .entry)) (now (starts .exit)) (now (processors .entry)) (now (processors .exit)) (now (busy .entry)) (now (busy .exit)) (now (waiting .entry)) (now (waiting .exit)) ⌝ }
+    ensures { λ _. ⌜ WrittenDown task processor start finish
+        (now (starts .entry)) (now (starts .exit))
+        (now (processors .entry)) (now (processors .exit))
+        (now (busy .entry)) (now (busy .exit))
+        (now (waiting .entry)) (now (waiting .exit)) ⌝ }
 {
     starts[task] = start;
     processors[task] = processor as u8;

@@ -74,8 +74,8 @@ fn cover_refusal(covered: Covered) -> u32
     }
 }
 
-// The cover call: 0 with the cover and the dearest chain in the first two places of `out`, or the refusal's number; `out` is one of the slices
-// that can be too short (9).
+// The cover call: 0 with the cover and the dearest chain in the first two places of `out`, or the refusal's number; `out` is one of the
+// slices that can be too short (9).
 #[no_mangle]
 pub extern "C" fn timing_cover(
     file: &[u8],

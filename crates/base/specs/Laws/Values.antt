@@ -1,4 +1,4 @@
--- The values of a numbered row: how many, by place, as members, one more at the end, and as a map over 0, 1, .. . By induction on their number.
+-- The values of a numbered row: how many, by place, as members, one more at the end, as a map over 0, 1, .. . By induction on their number.
 use mathlib.Core.Path.{_≡_, refl, ap, sym, _∙_, subst}
 use mathlib.Core.List.{List, [], _∷_, _++_, map, map-append, map-id}
 use Prim.Native.Nat.{ℕ, zero, suc, _+_, _-_, _≤_, _<_}
@@ -78,13 +78,15 @@ module _ {A : Type 0} (f : ℕ → A) where
 
   -- each value is a member
   pub value-in : (k n : ℕ) → n < k → f n ∈ values f 0 k
-  value-in k n h = subst (λ (a : A). a ∈ values f 0 k) (value-at (f n) k n h) (at-in (f n) (values f 0 k) n (omega (arith, length-values f 0 k)))
+  value-in k n h =
+      subst (λ (a : A). a ∈ values f 0 k) (value-at (f n) k n h) (at-in (f n) (values f 0 k) n (omega (arith, length-values f 0 k)))
 
   -- what holds of each value holds of each member
   pub for-values : (P : A → Type 0) (i k : ℕ) → ((n : ℕ) → i ≤ n → n < i + k → P (f n)) → (a : A) → a ∈ values f i k → P a
   unfolding values
   for-values P i zero h a m = absurd (in-nothing m)
-  for-values P i (suc k) h a m = for-cons P (h i (omega arith) (omega arith)) (for-values P (suc i) k (λ n p q. h n (omega arith) (omega arith))) a m
+  for-values P i (suc k) h a m =
+      for-cons P (h i (omega arith) (omega arith)) (for-values P (suc i) k (λ n p q. h n (omega arith) (omega arith))) a m
 
   -- the values from place i to before place n: the first of them, and the others
   pub values-front : (i n : ℕ) → i < n → values f i (n - i) ≡ f i ∷ values f (suc i) (n - suc i)

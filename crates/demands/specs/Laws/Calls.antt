@@ -45,7 +45,8 @@ module _ (m : ℕ) (starts processors scratch : List ℕ) where
       go (inl a) (inl b) (inr (inr s)) = rw (le-ltb (length starts) m a, le-ltb (length processors) m b, lt-ltb (length scratch) 4096 s)
 
   pub room-false : HasRoom m starts processors scratch → tooShort m starts processors scratch ≡ false
-  room-false f = rw (le-ltb (length starts) m (f .for-starts), le-ltb (length processors) m (f .for-processors), le-ltb (length scratch) 4096 (f .for-scratch))
+  room-false f =
+      rw (le-ltb (length starts) m (f .for-starts), le-ltb (length processors) m (f .for-processors), le-ltb (length scratch) 4096 (f .for-scratch))
 
 -- ---- an acceptance: the file is accepted, the slices have room
 
@@ -63,15 +64,24 @@ pub planned-as : (file starts processors scratch : List ℕ) (m E : ℕ) → pla
 unfolding planCall planFor planAccepted
 planned-as file starts processors scratch m E h = go (readJob file) refl h
   where
-    held : (j : Job) → readJob file ≡ accepted j → Short (tasks (instance j)) starts processors scratch ⊎ HasRoom (tasks (instance j)) starts processors scratch
+    held : (j : Job) → readJob file ≡ accepted j
+        → Short (tasks (instance j)) starts processors scratch ⊎ HasRoom (tasks (instance j)) starts processors scratch
         → planFor (accepted j) starts processors scratch .answer ≡ Plan m E → PlannedAs file starts processors scratch m E
     held j e (inl s) w =
         let v : Refused 9 ≡ Plan m E = rw (short-true (tasks (instance j)) starts processors scratch s) at w in
         let z : false ≡ true = cc in
         impossible z
     held j e (inr f) w =
-        let v : Plan (tasks (instance j)) (end (instance j) (planned (instance j))) ≡ Plan m E = rw (room-false (tasks (instance j)) starts processors scratch f) at w in
-        record { job = j; says = e; has-room = f; tasks-are = cc; end-is = cc; call-is = rw (e, planFor, room-false (tasks (instance j)) starts processors scratch f) }
+        let v : Plan (tasks (instance j)) (end (instance j) (planned (instance j))) ≡ Plan m E =
+        rw (room-false (tasks (instance j)) starts processors scratch f) at w in
+        record {
+          job = j;
+          says = e;
+          has-room = f;
+          tasks-are = cc;
+          end-is = cc;
+          call-is = rw (e, planFor, room-false (tasks (instance j)) starts processors scratch f);
+        }
 
     go : (a : Answer) → readJob file ≡ a → planFor a starts processors scratch .answer ≡ Plan m E → PlannedAs file starts processors scratch m E
     go (accepted j) e w = held j e (short-or-room (tasks (instance j)) starts processors scratch) w
@@ -89,14 +99,16 @@ pub covered-as : (file starts processors scratch : List ℕ) (C D : ℕ) → cov
 unfolding coverCall coverFor coverAccepted
 covered-as file starts processors scratch C D h = go (readJob file) refl h
   where
-    held : (j : Job) → readJob file ≡ accepted j → Short (tasks (instance j)) starts processors scratch ⊎ HasRoom (tasks (instance j)) starts processors scratch
+    held : (j : Job) → readJob file ≡ accepted j
+        → Short (tasks (instance j)) starts processors scratch ⊎ HasRoom (tasks (instance j)) starts processors scratch
         → coverFor (accepted j) starts processors scratch .answer ≡ Cover C D → CoveredAs file starts processors scratch C D
     held j e (inl s) w =
         let v : NotCovered 9 ≡ Cover C D = rw (short-true (tasks (instance j)) starts processors scratch s) at w in
         let z : false ≡ true = cc in
         impossible z
     held j e (inr f) w =
-        let v : Cover (cover (instance j)) (dearest (instance j)) ≡ Cover C D = rw (room-false (tasks (instance j)) starts processors scratch f) at w in
+        let v : Cover (cover (instance j)) (dearest (instance j)) ≡ Cover C D =
+        rw (room-false (tasks (instance j)) starts processors scratch f) at w in
         record { job = j; says = e; cover-is = cc; dearest-is = cc }
 
     go : (a : Answer) → readJob file ≡ a → coverFor a starts processors scratch .answer ≡ Cover C D → CoveredAs file starts processors scratch C D

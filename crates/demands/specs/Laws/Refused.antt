@@ -101,7 +101,8 @@ module _ (file starts processors scratch : List ℕ) where
   pub cover-number : (k : ℕ) → SlicesRefused k → coverCall file starts processors scratch .answer ≡ NotCovered k
   cover-number k r = ap (λ (c : CoverCall). c .answer) (cover-refused k r)
 
-  pub cover-taken : (a : SlicesTaken) → coverCall file starts processors scratch .answer ≡ Cover (cover (instance (a .0))) (dearest (instance (a .0)))
+  pub cover-taken : (a : SlicesTaken)
+      → coverCall file starts processors scratch .answer ≡ Cover (cover (instance (a .0))) (dearest (instance (a .0)))
   unfolding coverCall coverFor coverAccepted
   cover-taken (j, e, f) = rw (e, coverFor, room-false (tasks (instance j)) starts processors scratch f)
 

@@ -19,15 +19,26 @@ pub edges-set : (from to counts : List ℕ) (l f t c : ℕ) → l < length from 
 unfolding edgeHeld
 edges-set from to counts l f t c hf ht hc =
     let g = values-same (edgeHeld (set from l f) (set to l t) (set counts l c)) (edgeHeld from to counts) 0 l
-    (λ n a b. rw (getD-set-other from l n f 0 (λ e. omega arith), getD-set-other to l n t 0 (λ e. omega arith), getD-set-other counts l n c 0 (λ e. omega arith))) in
+    (λ n a b. rw (
+      getD-set-other from l n f 0 (λ e. omega arith),
+      getD-set-other to l n t 0 (λ e. omega arith),
+      getD-set-other counts l n c 0 (λ e. omega arith),
+    )) in
     values-more (edgeHeld (set from l f) (set to l t) (set counts l c)) l
     ∙ rw (g, getD-set-same from l f 0 hf, getD-set-same to l t 0 ht, getD-set-same counts l c 0 hc)
 
+-- one part of each edge as an array of a reading
+abbrev column : (Edge → ℕ) → List Edge → List ℕ
+column f es = padded 1024 (map f es)
+
 -- edges laid out in the three arrays of a reading stand there
-pub edges-held : (es : List Edge) →
-    values (edgeHeld (padded 1024 (map (λ (e : Edge). e .from) es)) (padded 1024 (map (λ (e : Edge). e .to) es)) (padded 1024 (map (λ (e : Edge). e .count) es))) 0 (length es) ≡ es
+pub edges-held : (es : List Edge) → values (edgeHeld (column (λ e. e .from) es) (column (λ e. e .to) es) (column (λ e. e .count) es)) 0 (length es) ≡ es
 unfolding edgeHeld
 edges-held es = values-back (edge 0 0 0) es _ at
   where
-    at : (i : ℕ) → edgeHeld (padded 1024 (map (λ (e : Edge). e .from) es)) (padded 1024 (map (λ (e : Edge). e .to) es)) (padded 1024 (map (λ (e : Edge). e .count) es)) i ≡ getD es i (edge 0 0 0)
-    at i = rw (column-at (λ e. e .from) (edge 0 0 0) refl es i, column-at (λ e. e .to) (edge 0 0 0) refl es i, column-at (λ e. e .count) (edge 0 0 0) refl es i)
+    at : (i : ℕ) → edgeHeld (column (λ e. e .from) es) (column (λ e. e .to) es) (column (λ e. e .count) es) i ≡ getD es i (edge 0 0 0)
+    at i = rw (
+      column-at (λ e. e .from) (edge 0 0 0) refl es i,
+      column-at (λ e. e .to) (edge 0 0 0) refl es i,
+      column-at (λ e. e .count) (edge 0 0 0) refl es i,
+    )

@@ -19,7 +19,8 @@ use Rattle.job.specs.Job.{Job, blank}
 use Rattle.job.specs.Record.{Kind, rack, step, link, end, kindOf, bodyLength, added}
 use Rattle.job.specs.Read.{Answer, accepted, refused, after, records, readJob}
 use Rattle.job.specs.Write.{roomFor}
-use Rattle.job.specs.Cause.{Cause, Untroubled, Reached, start, next, cut, unknown, misplaced, out-of-range, too-many, bad-ends, not-above, bytes-after}
+use Rattle.job.specs.Cause.{Cause, Untroubled, Reached, start, next}
+use Rattle.job.specs.Cause.{cut, unknown, misplaced, out-of-range, too-many, bad-ends, not-above, bytes-after}
 use Rattle.job.specs.Laws.Judged.{skip, whole}
 use Rattle.job.specs.Laws.Turn.{Reads, no-more, halted, past, closed, reads}
 use Rattle.job.specs.Laws.Lists.{at-place}

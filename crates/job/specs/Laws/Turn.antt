@@ -21,7 +21,8 @@ pub data Turn (rest : List ℕ) (j : Job) (more : ℕ → Job → Answer) : Opti
   goes-on : (k : Kind) → 1 ≤ bodyLength k → Untroubled rest j k → Turn rest j more (some k) (more (bodyLength k) (added j k rest))
   is-end : Untroubled rest j end → rest ≡ [] → Turn rest j more (some end) (accepted j)
 
-fitted : (k : Kind) (rest : List ℕ) (j : Job) (more : ℕ → Job → Answer) → Untroubled rest j k → Turn rest j more (some k) (after k rest j more)
+fitted : (k : Kind) (rest : List ℕ) (j : Job) (more : ℕ → Job → Answer)
+    → Untroubled rest j k → Turn rest j more (some k) (after k rest j more)
 unfolding after bodyLength
 fitted rack rest j more f = goes-on rack (omega arith) f
 fitted step rest j more f = goes-on step (omega arith) f

@@ -1,4 +1,4 @@
--- `kelvrist_check` returns a refused file's number, 9 for a plan too short for the job's tasks, and else the number of what `check` says of these.
+-- `kelvrist_check` returns a refused file's number, 9 for a plan too short for the job, and else the number of what `check` says of its tasks.
 use mathlib.Core.Path.{_≡_, ap, sym, _∙_}
 use mathlib.Core.List.{List}
 use Prim.Native.Nat.{ℕ, _*_, _≤_, _<_}
@@ -40,7 +40,8 @@ module _ (file plan : List ℕ) {w : Verdict} (e : w ≡ readingOf (readJob file
     too-short h = sym (check-short file plan (job .0) (job .1) (omega (arith, job .2)))
 
     -- the tasks that were decoded are the job's
-    answers : (starts processors : List ℕ) {c : Checked} {n : ℕ} (k : ℕ) → 5 * m ≤ length plan → length starts ≡ 256 → length processors ≡ 256
+    answers : (starts processors : List ℕ) {c : Checked} {n : ℕ} (k : ℕ)
+        → 5 * m ≤ length plan → length starts ≡ 256 → length processors ≡ 256
         → ((T : ℕ) → T < k → (getD starts T 0 ≡ startIn plan T) × (getD processors T 0 ≡ processorIn plan T)) → k ≡ m
         → c ≡ checkCall file starts processors → n ≡ checkNumber c → n ≡ checkBytesCall file plan
     unfolding instance
@@ -69,7 +70,8 @@ returns : tie.Need-returns
 returns c =
     let at-number = c .before in
     let at-told = at-number .before in
-    refuses _ _ (at-told .before .before .verdict-on .ensures) _ (at-told .enum-told .given .1) (omega (arith, c .wide8 .ensures .0, at-number .number .ensures))
+    refuses _ _ (at-told .before .before .verdict-on .ensures) _ (at-told .enum-told .given .1)
+    (omega (arith, c .wide8 .ensures .0, at-number .number .ensures))
 
 mul-bytes : tie.Need-mul-bytes
 mul-bytes c =

@@ -70,7 +70,8 @@ got-more plan starts processors t at p s g hs hp l at-is p-is s-is T h = go (le-
         s-is ∙ sym (ap number (four-at plan (5 * t + 1) (omega arith) ∙ rw (two, three, four, ← at-is)))
 
     go : (suc T ≤ t) ⊎ (t < suc T) → (getD (set starts t s) T 0 ≡ startIn plan T) × (getD (set processors t p) T 0 ≡ processorIn plan T)
-    go (inl k) = (getD-set-other starts t T s 0 (λ q. omega arith) ∙ g T k .0, getD-set-other processors t T p 0 (λ q. omega arith) ∙ g T k .1)
+    go (inl k) =
+        (getD-set-other starts t T s 0 (λ q. omega arith) ∙ g T k .0, getD-set-other processors t T p 0 (λ q. omega arith) ∙ g T k .1)
     go (inr k) =
         let q : T ≡ t = omega arith in
         rw q (getD-set-same starts t s 0 hs ∙ start, getD-set-same processors t p 0 hp ∙ (p-is ∙ rw at-is))

@@ -26,7 +26,10 @@ returns : tie.Need-returns
 returns c =
     let at-number = c .before .before in
     let at-told = at-number .before in
-    (refused-listed _ _ (at-told .before .before .read .ensures) (at-told .enum-told .given .1) (omega (arith, at-number .number .ensures)) (c .refusal .ensures .0), c .refusal .ensures .1)
+    let read = at-told .before .before .read .ensures in (
+      refused-listed _ _ read (at-told .enum-told .given .1) (omega (arith, at-number .number .ensures)) (c .refusal .ensures .0),
+      c .refusal .ensures .1,
+    )
 
 slice-aggregate-cover : tie.Need-slice-aggregate-cover
 slice-aggregate-cover c = search needs

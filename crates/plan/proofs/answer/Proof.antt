@@ -24,7 +24,8 @@ returns : tie.Need-returns
 returns c =
     let at-number = c .before .before in
     let at-told = at-number .before in
-    refused-listed _ _ (at-told .before .before .read .ensures) (at-told .enum-told2 .given .1) (omega (arith, at-number .number .ensures)) (c .refusal .ensures .0)
+    refused-listed _ _ (at-told .before .before .read .ensures) (at-told .enum-told2 .given .1)
+    (omega (arith, at-number .number .ensures)) (c .refusal .ensures .0)
 
 write-requires : tie.Need-write-requires
 write-requires c κs = search needs

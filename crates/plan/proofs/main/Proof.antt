@@ -54,7 +54,8 @@ array-share-prefix-output : tie.Need-array-share-prefix-output
 array-share-prefix-output c = text-within _ _ (c .answer .ensures)
 
 slice-aggregate-write-all : tie.Need-slice-aggregate-write-all
-slice-aggregate-write-all c = sym (length-take-le (c .before .answer .result) (c .before .answer .last .1 .0) (text-within _ _ (c .before .answer .ensures)))
+slice-aggregate-write-all c =
+    sym (length-take-le (c .before .answer .result) (c .before .answer .last .1 .0) (text-within _ _ (c .before .answer .ensures)))
 
 write-all-requires : tie.Need-write-all-requires
 write-all-requires c κs = search needs

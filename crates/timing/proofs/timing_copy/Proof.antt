@@ -41,7 +41,8 @@ wide8-requires c κs = search needs
 returns : tie.Need-returns
 returns c =
     let at-told = c .before .before in
-    refuses _ _ (at-told .before .before .read .ensures) _ _ _ (at-told .enum-told .given .1) (c .wide8 .ensures .0 ∙ c .before .number .ensures)
+    refuses _ _ (at-told .before .before .read .ensures) _ _ _ (at-told .enum-told .given .1)
+    (c .wide8 .ensures .0 ∙ c .before .number .ensures)
 
 write-requires : tie.Need-write-requires
 write-requires c κs = search needs

@@ -1,4 +1,5 @@
--- `timing::timing_cover` returns the reader's number or 9 for an output without two places, and else what the cover call answers and leaves, its two numbers stored in the output.
+-- `timing::timing_cover` returns the reader's number or 9 for an output without two places, and else what the cover call answers and leaves,
+-- its two numbers stored in the output.
 use mathlib.Core.Path.{_≡_, refl, ap, sym, _∙_}
 use mathlib.Core.List.{List, [], _∷_}
 use Prim.Native.Nat.{ℕ, _≤_, _<_}
@@ -39,7 +40,8 @@ module _ (file : List ℕ) {x : Reading} (e : x ≡ readingOf (readJob file)) wh
   accepted-number {m} {l} v = sym (ap orNine (counted (readJob file) m l (ap (λ (r : Reading). r .verdict) (sym e) ∙ v) .1))
 
 module _ (file starts processors scratch out : List ℕ) where
-  no-room : (n : ℕ) → length out < 2 → n ≡ orNine (readJob file) → coverReturned n starts processors scratch out ≡ coverTimed file starts processors scratch out
+  no-room : (n : ℕ) → length out < 2 → n ≡ orNine (readJob file)
+      → coverReturned n starts processors scratch out ≡ coverTimed file starts processors scratch out
   unfolding coverTimed
   no-room n h e = simp (lt-ltb (length out) 2 h) (ap (λ (k : ℕ). coverReturned k starts processors scratch out) e)
 
@@ -74,7 +76,8 @@ returns c =
     let at-told = c .before .before in
     let at-read = at-told .before .before in
     no-room _ _ _ _ _ _ (omega (arith, at-read .before .if1 .taken))
-    (refused-number _ (at-read .read .ensures) (at-told .enum-told2 .given .1) (omega (arith, c .wide8 .ensures .0, c .before .number .ensures)))
+    (refused-number _ (at-read .read .ensures) (at-told .enum-told2 .given .1)
+    (omega (arith, c .wide8 .ensures .0, c .before .number .ensures)))
 
 returns-2 : tie.Need-returns-2
 returns-2 c =
@@ -106,7 +109,8 @@ returns-3 : tie.Need-returns-3
 returns-3 c =
     let at-cover = c .before .before .before .before .before .before .before .before .before in
     let at-if1 = at-cover .before .before .before .before in
-    refuses _ _ _ _ _ (omega (arith, at-if1 .if1 .left)) (at-cover .cover .ensures) _ _ (c .before .enum-told3 .given .1) (c .cover-refusal .ensures)
+    refuses _ _ _ _ _ (omega (arith, at-if1 .if1 .left)) (at-cover .cover .ensures) _ _
+    (c .before .enum-told3 .given .1) (c .cover-refusal .ensures)
 
 slice-write-out : tie.Need-slice-write-out
 slice-write-out c = search needs

@@ -50,7 +50,10 @@ wide8-requires : tie.Need-wide8-requires
 wide8-requires c κs = search needs
 
 returns-2 : tie.Need-returns-2
-returns-2 c = in-from _ _ (c .before .before .before .before .read .ensures) _ _ (c .wide8 .ensures .0) (c .before .before .before .if1 .left) (c .before .before .if2 .taken)
+returns-2 c =
+    let at-if2 = c .before .before in
+    let at-if1 = at-if2 .before in
+    in-from _ _ (at-if1 .before .read .ensures) _ _ (c .wide8 .ensures .0) (at-if1 .if1 .left) (at-if2 .if2 .taken)
 
 element-copy-out-wide8-2 : tie.Need-element-copy-out-wide8-2
 element-copy-out-wide8-2 c = search needs
@@ -59,7 +62,11 @@ wide8-requires-2 : tie.Need-wide8-requires-2
 wide8-requires-2 c κs = search needs
 
 returns-3 : tie.Need-returns-3
-returns-3 c = in-to _ _ (c .before .before .before .before .before .read .ensures) _ _ (c .wide82 .ensures .0) (c .before .before .before .before .if1 .left) (c .before .before .before .if2 .left) (c .before .before .if3 .taken)
+returns-3 c =
+    let at-if3 = c .before .before in
+    let at-if2 = at-if3 .before in
+    let at-if1 = at-if2 .before in
+    in-to _ _ (at-if1 .before .read .ensures) _ _ (c .wide82 .ensures .0) (at-if1 .if1 .left) (at-if2 .if2 .left) (at-if3 .if3 .taken)
 
 mul-wide16 : tie.Need-mul-wide16
 mul-wide16 c = search needs
@@ -85,7 +92,8 @@ returns-5 c =
     let at-if3 = at-if4 .before in
     let at-if2 = at-if3 .before in
     let at-if1 = at-if2 .before in
-    past _ _ (at-if1 .before .read .ensures) _ _ (c .wide83 .ensures .0 ∙ c .before .number .ensures) (at-if1 .if1 .left) (at-if2 .if2 .left)
+    past _ _ (at-if1 .before .read .ensures) _ _ (c .wide83 .ensures .0 ∙ c .before .number .ensures)
+    (at-if1 .if1 .left) (at-if2 .if2 .left)
     (at-if3 .if3 .left) (at-if4 .if4 .left)
 
 pub timing-read-spec : {M : Type 1} → statement M

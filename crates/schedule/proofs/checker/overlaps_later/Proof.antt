@@ -143,11 +143,13 @@ loop-again c =
       search needs,
       ⊎-elim (λ w. omega (arith, w .3, few)) (⊎-elim (λ w. omega (arith, w .3, few)) (⊎-elim (λ w. omega (arith, w .2, few)) (λ w. omega (arith, w .1, few)))) (c .if1 .came),
       ⊎-elim
-          (λ w. rw (w .3) (one-more _ _ _ _ _ (at-loop .loop .found) _ counted more (overlaps _ _ _ _ _ (w .0 .taken) (omega (arith, w .1 .taken)) (w .2 .taken))))
+          (λ w. rw (w .3) (one-more _ _ _ _ _ (at-loop .loop .found) _ counted more
+          (overlaps _ _ _ _ _ (w .0 .taken) (omega (arith, w .1 .taken)) (w .2 .taken))))
           (⊎-elim
           (λ w. rw (w .3) (no-more _ _ _ _ _ (at-loop .loop .found) _ counted more (finishes-before _ _ _ _ _ (w .0 .taken) (w .1 .taken) (w .2 .left))))
           (⊎-elim
-          (λ w. rw (w .2) (no-more _ _ _ _ _ (at-loop .loop .found) _ counted more (starts-after _ _ _ _ _ (w .0 .taken) (omega (arith, w .1 .left)))))
+          (λ w. rw (w .2) (no-more _ _ _ _ _ (at-loop .loop .found) _ counted more
+          (starts-after _ _ _ _ _ (w .0 .taken) (omega (arith, w .1 .left)))))
           (λ w. rw (w .1) (no-more _ _ _ _ _ (at-loop .loop .found) _ counted more (elsewhere _ _ _ _ _ (w .0 .left))))))
           (c .if1 .came),
     )

@@ -11,8 +11,12 @@ use Rattle.schedule.specs.Pass.{sentTo, placedMark, WrittenDown, Sent, S
 use Rattle.schedule.proofs.planner.place.Statement.{statement}
 use Rattle.schedule.proofs.planner.place.Tie as tie
 
+-- a pair written down
+abbrev Noted : Pair → ℕ → List ℕ → List ℕ → List ℕ → List ℕ → List ℕ → List ℕ → List ℕ → List ℕ → Type 0
+Noted pair = WrittenDown (pair .task) (pair .processor) (pair .start)
+
 module _ (pair : Pair) (finish : ℕ) (starts starts′ processors processors′ busy busy′ waiting waiting₁ : List ℕ)
-    (P : WrittenDown (pair .task) (pair .processor) (pair .start) finish starts starts′ processors processors′ busy busy′ waiting waiting₁) where
+    (P : Noted pair finish starts starts′ processors processors′ busy busy′ waiting waiting₁) where
   still-enough : (first last : ℕ) (to : List ℕ) → ((T : ℕ) → sum last (λ k. one-if (sentTo to first T k)) ≤ getD (set waiting (pair .task) placedMark) T 0)
       → (T : ℕ) → sum last (λ k. one-if (sentTo to first T k)) ≤ getD waiting₁ T 0
   still-enough first last to h = rw (P .waiting-are) h
@@ -30,8 +34,9 @@ module _ (pair : Pair) (finish : ℕ) (starts starts′ processors processors′
 
 -- what was written down is the pair
 of-pair : (pair : Pair) {T Q s f : ℕ} {starts starts′ processors processors′ busy busy′ waiting waiting₁ : List ℕ}
-    → WrittenDown T Q s f starts starts′ processors processors′ busy busy′ waiting waiting₁ → T ≡ pair .task → Q ≡ pair .processor → s ≡ pair .start
-    → WrittenDown (pair .task) (pair .processor) (pair .start) f starts starts′ processors processors′ busy busy′ waiting waiting₁
+    → WrittenDown T Q s f starts starts′ processors processors′ busy busy′ waiting waiting₁
+    → T ≡ pair .task → Q ≡ pair .processor → s ≡ pair .start
+    → Noted pair f starts starts′ processors processors′ busy busy′ waiting waiting₁
 of-pair pair W a b c = rw (a, b, c) at W
 
 put-requires : tie.Need-put-requires

@@ -109,8 +109,10 @@ loop-again c =
     let at-if1 = c .before .before in
     let at-loop = at-if1 .before .before .before .before in
     ⊎-elim
-    (λ w. sooner _ _ _ _ _ _ _ refl (search needs) _ _ _ (at-loop .loop .inv .1) (at-loop .loop .inv .2) (at-if1 .if1 .left) (omega (arith, w .0 .taken)) (w .1))
-    (λ w. later _ _ _ _ _ _ _ refl (search needs) _ _ _ (at-loop .loop .inv .1) (at-loop .loop .inv .2) (at-if1 .if1 .left) (omega (arith, w .0 .left)) (w .1))
+    (λ w. sooner _ _ _ _ _ _ _ refl (search needs) _ _ _ (at-loop .loop .inv .1) (at-loop .loop .inv .2)
+    (at-if1 .if1 .left) (omega (arith, w .0 .taken)) (w .1))
+    (λ w. later _ _ _ _ _ _ _ refl (search needs) _ _ _ (at-loop .loop .inv .1) (at-loop .loop .inv .2)
+    (at-if1 .if1 .left) (omega (arith, w .0 .left)) (w .1))
     (c .if2 .came)
 
 returns-2 : tie.Need-returns-2 Inv-loop μ-loop
