@@ -81,13 +81,14 @@ same-or-not a b = elim (either (eqb a b)) [ inl h ↦ inl (eqb→eq a b h) | inr
 pub le-or-lt : (a b : ℕ) → (a ≤ b) ⊎ (b < a)
 le-or-lt a b = elim (either (leb a b)) [ inl h ↦ inl (leb→le a b h) | inr h ↦ inr (nleb→lt a b h) ]
 
+pub lt-or-ge : (a b : ℕ) → (a < b) ⊎ (b ≤ a)
+lt-or-ge a b = elim (le-or-lt b a) [ inl h ↦ inr h | inr h ↦ inl h ]
+
 pub not-not : (b : Bool) → Holds b → Holds (not (not b))
 not-not true h = tt
 not-not false h = h
 
--- the same, below first
-pub lt-or-ge : (a b : ℕ) → (a < b) ⊎ (b ≤ a)
-lt-or-ge a b = elim (le-or-lt b a) [ inl h ↦ inr h | inr h ↦ inl h ]
+-- ---- tests by `b ≡ true`
 
 -- the two values of a test differ
 pub impossible : {A : Type 0} → false ≡ true → A
