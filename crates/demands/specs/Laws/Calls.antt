@@ -46,7 +46,11 @@ module _ (m : ℕ) (starts processors scratch : List ℕ) where
 
   pub room-false : HasRoom m starts processors scratch → tooShort m starts processors scratch ≡ false
   room-false f =
-      rw (le-ltb (length starts) m (f .for-starts), le-ltb (length processors) m (f .for-processors), le-ltb (length scratch) 4096 (f .for-scratch))
+      rw (
+        le-ltb (length starts) m (f .for-starts),
+        le-ltb (length processors) m (f .for-processors),
+        le-ltb (length scratch) 4096 (f .for-scratch),
+      )
 
 -- ---- an acceptance: the file is accepted, the slices have room
 

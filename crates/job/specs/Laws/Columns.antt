@@ -32,7 +32,8 @@ abbrev column : (Edge → ℕ) → List Edge → List ℕ
 column f es = padded 1024 (map f es)
 
 -- edges laid out in the three arrays of a reading stand there
-pub edges-held : (es : List Edge) → values (edgeHeld (column (λ e. e .from) es) (column (λ e. e .to) es) (column (λ e. e .count) es)) 0 (length es) ≡ es
+pub edges-held : (es : List Edge)
+    → values (edgeHeld (column (λ e. e .from) es) (column (λ e. e .to) es) (column (λ e. e .count) es)) 0 (length es) ≡ es
 unfolding edgeHeld
 edges-held es = values-back (edge 0 0 0) es _ at
   where

@@ -1,4 +1,4 @@
--- `kelvrist_check` returns a refused file's number, 9 for a plan too short for the job, and else the number of what `check` says of its tasks.
+-- `kelvrist_check` returns a refused file's number, 9 for a plan too short for the job, and else the number of what `check` says.
 use mathlib.Core.Path.{_≡_, ap, sym, _∙_}
 use mathlib.Core.List.{List}
 use Prim.Native.Nat.{ℕ, _*_, _≤_, _<_}

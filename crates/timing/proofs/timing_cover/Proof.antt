@@ -1,5 +1,5 @@
--- `timing::timing_cover` returns the reader's number or 9 for an output without two places, and else what the cover call answers and leaves,
--- its two numbers stored in the output.
+-- `timing::timing_cover` returns the reader's number or 9 for an output without two places, and else what the cover call answers and
+-- leaves, its two numbers stored in the output.
 use mathlib.Core.Path.{_≡_, refl, ap, sym, _∙_}
 use mathlib.Core.List.{List, [], _∷_}
 use Prim.Native.Nat.{ℕ, _≤_, _<_}
