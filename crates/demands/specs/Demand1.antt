@@ -25,7 +25,8 @@ use Rattle.schedule.specs.Plan.{called, planCall}
 use Rattle.schedule.specs.Cover.{covered, coverCall}
 use Rattle.schedule.specs.Check.{checkFor, checkCall}
 use Rattle.job.specs.Accepted.{refused-is}
-use Rattle.kelvrist.specs.PlanBytes.{returned, processorIn, startIn, planBytesCall, checkBytesFor, checkBytesCall}
+use Rattle.kelvrist.specs.PlanBytes.{returned, processorIn, startIn, planBytesCall, checkBytesCall}
+use Rattle.kelvrist.specs.Numbers.{check-passes-on}
 use Rattle.listing.specs.Listing.{refusalLine, planListing, listing}
 use Rattle.demands.specs.Laws.Printed.{prints}
 use Rattle.demands.specs.Laws.Judged.{read-answers, check-refuses, check-answers, check-returns, check-returns-number, write-answers, write-leaves}
@@ -115,8 +116,7 @@ module _ (file : List ℕ) where
   checker-returns-number = check-returns-number file
 
   pub checker-returns-passed : (plan : List ℕ) (k : ℕ) → readJob file ≡ refused k → checkBytesCall file plan ≡ k
-  unfolding checkBytesCall checkBytesFor
-  checker-returns-passed plan k e = rw e
+  checker-returns-passed plan k e = check-passes-on file plan k e
 
 -- ---- the writer, for a job held as numbers: it writes, or refuses by 3 to 7 or 9
 

@@ -43,7 +43,10 @@ refusal (some k) = k
 
 -- the lines that answer a question; all definitions are opened, so that they compute
 pub answer : Question → List (List ℕ)
-unfolding printed instance upto any all filter greatest keep best duration into messageTime placed placementOf messageTimeTo arrival end scheduleOf byTask atMost move settle nextMoment free finished ready pair pairs choice complete round run planned roundsIn rounds running busy idle someIdle latestIdleTick lowestIdle later latestInto back walk lastTask cover greatestCost dearestTo dearest firstAnswer misplaced overlap early check hypercubeHops difference ringHops hops cost bind orElse flatMap
+unfolding printed instance upto any all filter greatest keep best duration into messageTime placed placementOf messageTimeTo arrival end
+    scheduleOf byTask atMost move settle nextMoment free finished ready pair pairs choice complete round run planned roundsIn rounds
+    running busy idle someIdle latestIdleTick lowestIdle later latestInto back walk lastTask cover greatestCost dearestTo dearest
+    firstAnswer misplaced overlap early check hypercubeHops difference ringHops hops cost bind orElse flatMap
 answer (planOf j) = printed (instance j)
 answer (planBy order j) = printed (by order (instance j))
 answer (hopsOf r p q) = (hops r p q ∷ []) ∷ []

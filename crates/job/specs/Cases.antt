@@ -53,5 +53,6 @@ right [] = true
 right (c ∷ cs) = eqb (numberOf (readJob (c .file))) (c .answer) && right cs
 
 pub cases-hold : right cases ≡ true
-unfolding right cases readJob blank records judged after kindOf bodyLength stands noRack full inRange platformInRange durationInRange countInRange endsRight joins inOrder aboveLast rises added platformIn durationIn edgeIn number flatMap
+unfolding right cases readJob blank records judged after kindOf bodyLength stands noRack full inRange platformInRange durationInRange
+    countInRange endsRight joins inOrder aboveLast rises added platformIn durationIn edgeIn number flatMap
 cases-hold = refl

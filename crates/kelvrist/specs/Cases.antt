@@ -45,5 +45,10 @@ pub cases-hold :
     × (checkBytesCall linked (at 0 0 ++ at 1 6) ≡ 13)
     × (checkBytesCall linked (at 0 0 ++ at 1 7) ≡ 0)
     × (checkBytesCall (9 ∷ []) [] ≡ 2)
-unfolding checkOf planBytesCall planBytesFor planBytes taskBytes bytes startOf processorOf checkBytesCall checkBytesFor numberOf processorIn startIn number readJob blank records judged after kindOf bodyLength stands noRack full inRange platformInRange durationInRange countInRange endsRight joins inOrder aboveLast rises added platformIn durationIn edgeIn flatMap upto any all filter greatest keep best duration into messageTime placed placementOf messageTimeTo arrival end scheduleOf hops cost atMost move settle nextMoment free finished ready pair pairs choice complete round run planned firstAnswer misplaced overlap early check instance orElse bind
+unfolding checkOf planBytesCall planBytesFor planBytes taskBytes bytes startOf processorOf checkBytesCall checkBytesFor numberOf
+    processorIn startIn number readJob blank records judged after kindOf bodyLength stands noRack full inRange platformInRange
+    durationInRange countInRange endsRight joins inOrder aboveLast rises added platformIn durationIn edgeIn flatMap upto any all filter
+    greatest keep best duration into messageTime placed placementOf messageTimeTo arrival end scheduleOf hops cost atMost move settle
+    nextMoment free finished ready pair pairs choice complete round run planned firstAnswer misplaced overlap early check instance orElse
+    bind
 cases-hold = (refl, refl, refl, refl, refl, refl, refl, refl, refl, refl, refl, refl, refl)

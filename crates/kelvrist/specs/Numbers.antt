@@ -60,7 +60,7 @@ plan-in-bytes file plan starts processors scratch a b c = go (readJob file) refl
   where
     held : (j : Job) → tasks (instance j) ≤ 256
         → planBytesFor (accepted j) plan ≡ inBytes (planFor (accepted j) starts processors scratch) plan
-    held j few =
+    held j small =
         let I = instance j in
         let same = plan-bytes-same (tasks I) (λ T. getD (filled (processorOf I) (tasks I) processors) T 0) (processorOf I)
         (λ T. getD (filled (startOf I) (tasks I) starts) T 0) (startOf I)

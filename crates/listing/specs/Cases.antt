@@ -20,8 +20,14 @@ use Rattle.listing.specs.Listing.{text, digits, decimal, field, line, he
 use Rattle.listing.specs.Listing.{planListing, refusalLine, listingFor, listing}
 
 -- 01: "For bytes 01 02 00 02, .." to "04" it prints the seven lines; and nothing but its number for the file that ends too early
-pub printed : (listing file-a ≡ text "plan 2 3 2\n0 0 0 4\n1 1 0 3\n2 1 6 8\nend 8\ncover 6\ndearest 6\n") × (listing (1 ∷ 2 ∷ 0 ∷ []) ≡ text "refused 1\n")
-unfolding listing listingFor refusalLine planListing figures taskLines taskLine header line field decimal digits text startOf processorOf number readJob blank records judged after kindOf bodyLength stands noRack full inRange platformInRange durationInRange countInRange endsRight joins inOrder aboveLast rises added platformIn durationIn edgeIn flatMap upto any all filter greatest keep best duration into messageTime placed placementOf messageTimeTo arrival end hops cost atMost move settle nextMoment free finished ready pair pairs choice complete round run planned running busy idle someIdle latestIdleTick lowestIdle later latestInto back walk lastTask cover greatestCost dearestTo dearest instance orElse bind
+pub printed : (listing file-a ≡ text "plan 2 3 2\n0 0 0 4\n1 1 0 3\n2 1 6 8\nend 8\ncover 6\ndearest 6\n")
+    × (listing (1 ∷ 2 ∷ 0 ∷ []) ≡ text "refused 1\n")
+unfolding listing listingFor refusalLine planListing figures taskLines taskLine header line field decimal digits text startOf
+    processorOf number readJob blank records judged after kindOf bodyLength stands noRack full inRange platformInRange
+    durationInRange countInRange endsRight joins inOrder aboveLast rises added platformIn durationIn edgeIn flatMap upto any all
+    filter greatest keep best duration into messageTime placed placementOf messageTimeTo arrival end hops cost atMost move settle
+    nextMoment free finished ready pair pairs choice complete round run planned running busy idle someIdle latestIdleTick
+    lowestIdle later latestInto back walk lastTask cover greatestCost dearestTo dearest instance orElse bind
 printed = (refl, refl)
 
 -- the digits of the least and the greatest number of 32 bits

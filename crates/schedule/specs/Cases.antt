@@ -78,5 +78,10 @@ pub cases-hold :
     × (checkCall apart (0 ∷ []) (0 ∷ 1 ∷ []) ≡ NotChecked 9)
     × (checkCall apart (0 ∷ 0 ∷ []) (0 ∷ []) ≡ NotChecked 9)
     × (checkCall apart (0 ∷ 5 ∷ 0 ∷ []) (0 ∷ 0 ∷ 99 ∷ []) ≡ Yes)
-unfolding planCall planFor planAccepted coverCall coverFor coverAccepted filled scratchAt checkCall checkFor checkedAs checkOf startOf processorOf number readJob blank records judged after kindOf bodyLength stands noRack full inRange platformInRange durationInRange countInRange endsRight joins inOrder aboveLast rises added platformIn durationIn edgeIn flatMap upto any all filter greatest keep best duration into messageTime placed placementOf messageTimeTo arrival end scheduleOf hops cost atMost move settle nextMoment free finished ready pair pairs choice complete round run planned running busy idle someIdle latestIdleTick lowestIdle later latestInto back walk lastTask cover greatestCost dearestTo dearest firstAnswer misplaced overlap early check instance orElse bind
+unfolding planCall planFor planAccepted coverCall coverFor coverAccepted filled scratchAt checkCall checkFor checkedAs checkOf startOf
+    processorOf number readJob blank records judged after kindOf bodyLength stands noRack full inRange platformInRange durationInRange
+    countInRange endsRight joins inOrder aboveLast rises added platformIn durationIn edgeIn flatMap upto any all filter greatest keep best
+    duration into messageTime placed placementOf messageTimeTo arrival end scheduleOf hops cost atMost move settle nextMoment free
+    finished ready pair pairs choice complete round run planned running busy idle someIdle latestIdleTick lowestIdle later latestInto back
+    walk lastTask cover greatestCost dearestTo dearest firstAnswer misplaced overlap early check instance orElse bind
 cases-hold = (refl, refl, refl, refl, refl, refl, refl, refl, refl, refl, refl, refl, refl, refl, refl, refl, refl)
