@@ -3,6 +3,7 @@ import etf
 from vectors.dice import near
 
 MOST_TASKS, MOST_EDGES = 256, 1024
+LONGEST = 6405  # the bytes of the greatest file
 SMALL = etf.Job(2, 0, 2, [4, 3, 2], [(0, 2, 1), (1, 2, 3)])
 PAIRS = [(a, b) for a in range(256) for b in range(a + 1, 256)]
 

@@ -1,6 +1,6 @@
 """Cases of the job reader."""
 import etf
-from vectors.jobs import PAIRS, SMALL, greatest, greatest_values, random_job
+from vectors.jobs import LONGEST, PAIRS, SMALL, greatest, greatest_values, random_job
 from vectors.records import END, damaged, link, rack, step
 
 
@@ -64,7 +64,7 @@ def size_reads(cases, dice):
         read(cases, rack() + step() * m + END)
     for job in (greatest_values(), greatest(dice)):
         data = etf.write(job)
-        assert len(data) == 6405
+        assert len(data) == LONGEST
         read(cases, data)
         for more in (b"\x00", END, link(254, 255)):
             read(cases, data + more)

@@ -1,7 +1,7 @@
 """Cases of the job writer."""
 import etf
 from vectors.dice import ALL_ONES
-from vectors.jobs import SMALL, greatest, greatest_values, random_job, tasks_only
+from vectors.jobs import LONGEST, SMALL, greatest, greatest_values, random_job, tasks_only
 from vectors.records import out_of_range
 
 
@@ -101,8 +101,8 @@ def count_writes(cases, dice):
     write(cases, tasks_only(255), tasks=256, spare=(0, 0, 0, 0))
     job = greatest(dice)
     write(cases, job)
-    write(cases, job, room=6404)
-    write(cases, greatest_values(), room=6406, fill=0)
+    write(cases, job, room=LONGEST - 1)
+    write(cases, greatest_values(), room=LONGEST + 1, fill=0)
 
 
 def room_writes(cases):
