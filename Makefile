@@ -10,7 +10,7 @@
 # make clean         removes what was made
 
 .PHONY: run test check bench host differential examples vectors definitions clean
-.PHONY: job-named has-rt has-python3 has-cc has-rustc
+.PHONY: job-named has-rt has-python3 has-cc has-objcopy has-rustc
 
 libraries = target/staticlib/libkelvrist.a target/staticlib/libtiming.a
 
@@ -27,10 +27,15 @@ test:
 check: has-rt
 	@rt check
 
-bench: has-rt has-cc has-rustc $(libraries)
-	@rustc --edition 2021 -O -C target-cpu=x86-64 -C codegen-units=1 \
-		-L native=target/staticlib -l static=timing -l static=kelvrist -o target/bench bench/main.rs
+# Each function of either side begins at a line of the cache, so that no time hangs on where the linker happens to put it.
+bench: has-rt has-cc has-objcopy has-rustc $(libraries:target/staticlib/%=target/aligned/%)
+	@rustc --edition 2021 -O -C target-cpu=x86-64 -C codegen-units=1 -C llvm-args=-align-all-functions=6 \
+		-L native=target/aligned -l static=timing -l static=kelvrist -o target/bench bench/main.rs
 	@target/bench crates/vectors/stdin
+
+target/aligned/%.a: target/staticlib/%.a
+	@mkdir -p target/aligned
+	@objcopy $$(objdump -h $< | awk '$$2 ~ /^\.text\./ { print "--set-section-alignment " $$2 "=64" }') $< $@
 
 host: has-rt has-cc has-python3 target/staticlib/libkelvrist.a
 	@tests/c_host/run
@@ -75,6 +80,7 @@ job-named:
 has-rt: advice = install the Rattle kit and link its bin/rt
 has-python3: advice = install Python 3
 has-cc: advice = install a C compiler
+has-objcopy: advice = install the binary utilities (binutils)
 has-rustc: advice = install Rust
-has-rt has-python3 has-cc has-rustc: has-%:
+has-rt has-python3 has-cc has-objcopy has-rustc: has-%:
 	@command -v $* >/dev/null 2>&1 || { echo "$* is not on the path: $(advice)" >&2; exit 2; }
