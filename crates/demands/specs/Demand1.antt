@@ -5,6 +5,7 @@ use mathlib.Core.Path.{_≡_}
 use mathlib.Core.List.{List}
 use Prim.Native.Nat.{ℕ, suc, _*_, _≤_, _<_}
 use lib.ListN.{length, getD, drop}
+use Rattle.job.specs.declared.Arrays.{Arrays}
 use Rattle.job.specs.declared.Platform.{Platform}
 use Rattle.job.specs.declared.Verdict.the-variants.{Counts, Refused as NotRead}
 use Rattle.job.specs.declared.Written.the-variants.{Length, Refused as NotWritten}
@@ -12,7 +13,7 @@ use Rattle.job.specs.Job.{Job}
 use Rattle.job.specs.Record.{kindOf}
 use Rattle.job.specs.Read.{accepted, refused, readJob, readingOf}
 use Rattle.job.specs.Cause.{Cause, Reached}
-use Rattle.job.specs.Write.{fileOf, fileLength, heldJob, Held, writeAnswer, writeOut}
+use Rattle.job.specs.Write.{fileOf, heldJob, Held, writeAnswer, writeOut}
 use Rattle.job.specs.Refusal.{read-refused, write-refused}
 use Rattle.etf.specs.Instance.{tasks}
 use Rattle.etf.specs.Schedule.{scheduleOf}
@@ -120,17 +121,17 @@ module _ (file : List ℕ) where
 
 -- ---- the writer, for a job held as numbers: it writes, or refuses by 3 to 7 or 9
 
-module _ (p : Platform) (m l : ℕ) (durations from to counts out : List ℕ) (h : Held durations to counts) where
+module _ (p : Platform) (m l : ℕ) (a : Arrays) (out : List ℕ) (h : Held a) where
   abbrev held : Job
-  held = heldJob p m l durations from to counts
+  held = heldJob p m l a
 
-  pub writer-answers : (writeAnswer m l held out ≡ Length (fileLength m l))
+  pub writer-answers : (writeAnswer m l held out ≡ Length (length (fileOf held)))
       ⊎ ((k : ℕ) × (writeAnswer m l held out ≡ NotWritten k) × (((3 ≤ k) × (k ≤ 7)) ⊎ (k ≡ 9)))
-  writer-answers = write-answers p m l durations from to counts out h
+  writer-answers = write-answers p m l a out h
 
   -- 5 for a count too large, the reader's number for the job's file, or 9 for too little room, each only with its condition
   pub writer-refuses : (k : ℕ) → writeAnswer m l held out ≡ NotWritten k →
-      ((k ≡ 5) × ((256 < m) ⊎ (1024 < l))) ⊎ ((readJob (fileOf held) ≡ refused k) ⊎ ((k ≡ 9) × (length out < fileLength m l)))
+      ((k ≡ 5) × ((256 < m) ⊎ (1024 < l))) ⊎ ((readJob (fileOf held) ≡ refused k) ⊎ ((k ≡ 9) × (length out < length (fileOf held))))
   writer-refuses k e = write-refused m l k held out e
 
   -- ---- 00: "It comes for each input, and a refused call leaves each lent buffer unaltered."

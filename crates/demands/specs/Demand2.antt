@@ -5,6 +5,7 @@ use mathlib.Core.List.{List, _++_}
 use Prim.Native.Nat.{ℕ, _*_, _≤_, _<_}
 use lib.ListN.{length, getD, take, drop}
 use Rattle.base.specs.Number.{Bytes}
+use Rattle.job.specs.declared.Arrays.{Arrays}
 use Rattle.job.specs.declared.Platform.{Platform}
 use Rattle.job.specs.declared.Written.the-variants.{Length}
 use Rattle.job.specs.Job.{Edge, Job}
@@ -134,18 +135,15 @@ own-bytes-accepted = bytes-accepted
 
 -- ---- 00: "A job that the writer takes, written out and read, is the same job .."
 
-pub written-and-read : (p : Platform) (m l : ℕ) (durations from to counts out : List ℕ) → Held durations to counts → (n : ℕ)
-    → writeAnswer m l (heldJob p m l durations from to counts) out ≡ Length n
-    → readJob (take n (writeOut (Length n) (heldJob p m l durations from to counts) out)) ≡ accepted (heldJob p m l durations from to counts)
+pub written-and-read : (p : Platform) (m l : ℕ) (a : Arrays) (out : List ℕ) (n : ℕ) → Held a → writeAnswer m l (heldJob p m l a) out ≡ Length n
+    → readJob (take n (writeOut (Length n) (heldJob p m l a) out)) ≡ accepted (heldJob p m l a)
 written-and-read = written-read
 
 -- ---- 00: ".. and an accepted file written out is the same bytes."
 
 -- what the reader returns holds the job, the writer takes it where there is room, and what it writes is the file
 pub read-and-written : (file : List ℕ) (j : Job) (out : List ℕ) → Bytes file → readJob file ≡ accepted j → length file ≤ length out →
-    (heldJob (readingOf (readJob file) .platform) (length (j .tasks)) (length (j .edges)) (readingOf (readJob file) .durations)
-    (readingOf (readJob file) .from) (readingOf (readJob file) .to) (readingOf (readJob file) .counts) ≡ j)
+    (heldJob (readingOf (readJob file) .platform) (length (j .tasks)) (length (j .edges)) (readingOf (readJob file) .arrays) ≡ j)
     × (writeAnswer (length (j .tasks)) (length (j .edges)) j out ≡ Length (length file))
     × (writeOut (Length (length file)) j out ≡ file ++ drop (length file) out)
-unfolding readingOf
 read-and-written file j out b e h = let w = read-written file j out b e h in (rw e (read-held j), w .0, w .1)

@@ -8,9 +8,9 @@ use Prim.Native.Nat.{ℕ, suc, _≤_, _<_}
 use lib.ListN.{length, getD, List·getD-eq-default}
 use Rattle.job.specs.declared.Verdict.the-variants.{Counts, Refused}
 use Rattle.base.specs.Laws.Tests.{impossible}
-use Rattle.job.specs.declared.Reading.{Reading}
+use Rattle.job.specs.declared.Arrays.{Arrays}
 use Rattle.job.specs.Job.{Edge, Job, blank}
-use Rattle.job.specs.Read.{Answer, accepted, refused, readJob, readingOf}
+use Rattle.job.specs.Read.{Answer, accepted, refused, readJob, arraysOf, readingOf}
 use Rattle.job.specs.Laws.Turn.{reads}
 use Rattle.job.specs.Laws.Lists.{padded-length, padded-at, column-length, column-at, column-spare}
 use Rattle.job.specs.Laws.Tests.{platform-facts, duration-facts, count-facts, joins-facts, rises-facts}
@@ -79,8 +79,8 @@ unfolding readingOf
 refused-is (accepted j) e = let z : false ≡ true = cc in impossible z
 refused-is (refused n) e = cc
 
--- the arrays of a reading r of an accepted job j
-pub record Arrays (r : Reading) (j : Job) : Type 0 where
+-- a job j laid out in arrays
+pub record LaidOut (r : Arrays) (j : Job) : Type 0 where
   pub durations-length : length (r .durations) ≡ 256
   pub from-length : length (r .from) ≡ 1024
   pub to-length : length (r .to) ≡ 1024
@@ -94,9 +94,10 @@ pub record Arrays (r : Reading) (j : Job) : Type 0 where
   pub spare-to : (i : ℕ) → length (j .edges) ≤ i → getD (r .to) i 0 ≡ 0
   pub spare-counts : (i : ℕ) → length (j .edges) ≤ i → getD (r .counts) i 0 ≡ 0
 
-pub arrays : (j : Job) → Accepted j → Arrays (readingOf (accepted j)) j
-unfolding readingOf
-arrays j a = record {
+-- the reader lays out an accepted job
+pub laid-out : (j : Job) → Accepted j → LaidOut (readingOf (accepted j) .arrays) j
+unfolding readingOf arraysOf
+laid-out j a = record {
   durations-length = padded-length 256 (j .tasks) (a .few-tasks);
   from-length = column-length (λ e. e .from) noEdge refl (j .edges) (a .few-edges);
   to-length = column-length (λ e. e .to) noEdge refl (j .edges) (a .few-edges);

@@ -7,7 +7,8 @@ use lib.Dec.{eqb}
 use lib.ListN.{replicate}
 use Rattle.base.specs.Number.{number}
 use Rattle.job.specs.Job.{blank}
-use Rattle.job.specs.Record.{kindOf, bodyLength, platformIn, durationIn, edgeIn, noRack, stands, full, platformInRange, durationInRange, countInRange, inRange, joins, endsRight, rises, aboveLast, inOrder, added}
+use Rattle.job.specs.Record.{kindOf, bodyLength, platformIn, durationIn, edgeIn, noRack, stands, full, platformInRange}
+use Rattle.job.specs.Record.{durationInRange, countInRange, inRange, joins, rises, aboveLast, misfit, added}
 use Rattle.job.specs.Read.{Answer, accepted, refused, after, judged, records, readJob}
 
 -- a file and the number that it gets, 0 where it is accepted
@@ -54,5 +55,5 @@ right (c ∷ cs) = eqb (numberOf (readJob (c .file))) (c .answer) && right cs
 
 pub cases-hold : right cases ≡ true
 unfolding right cases readJob blank records judged after kindOf bodyLength stands noRack full inRange platformInRange durationInRange
-    countInRange endsRight joins inOrder aboveLast rises added platformIn durationIn edgeIn number flatMap
+    countInRange misfit joins aboveLast rises added platformIn durationIn edgeIn number flatMap
 cases-hold = refl

@@ -6,7 +6,8 @@ use mathlib.Core.Option.{Option, none, some}
 use Prim.Native.Nat.{ℕ, suc, _+_, _<_, _≤_}
 use lib.ListN.{length, getD, drop}
 use Rattle.job.specs.Job.{Job, blank}
-use Rattle.job.specs.Record.{Kind, end, kindOf, bodyLength, empty, stands, full, inRange, endsRight, inOrder, added}
+use Rattle.job.specs.Record.{Kind, link, end, kindOf, bodyLength, empty, stands, full, inRange, joins, aboveLast, misfit, edgeIn}
+use Rattle.job.specs.Record.{added}
 
 -- why a record of this kind, with `rest` after its kind byte, is refused after the job so far (01: the refusal table)
 pub data Cause (rest : List ℕ) (j : Job) : Option Kind → ℕ → Type 0 where
@@ -15,8 +16,8 @@ pub data Cause (rest : List ℕ) (j : Job) : Option Kind → ℕ → Type 0 wher
   misplaced : {k : Kind} → stands j k ≡ false → Cause rest j (some k) 3
   out-of-range : {k : Kind} → inRange k rest ≡ false → Cause rest j (some k) 4
   too-many : {k : Kind} → full j k ≡ true → Cause rest j (some k) 5
-  bad-ends : {k : Kind} → endsRight j k rest ≡ false → Cause rest j (some k) 6
-  not-above : {k : Kind} → inOrder j k rest ≡ false → Cause rest j (some k) 7
+  bad-ends : joins (length (j .tasks)) (edgeIn rest) ≡ false → Cause rest j (some link) 6
+  not-above : aboveLast (j .edges) (edgeIn rest) ≡ false → Cause rest j (some link) 7
   bytes-after : empty rest ≡ false → Cause rest j (some end) 8
 
 -- a record of kind k without trouble, with `rest` after its kind byte, after the job so far
@@ -25,8 +26,7 @@ pub record Untroubled (rest : List ℕ) (j : Job) (k : Kind) : Type 0 where
   pub room : full j k ≡ false
   pub whole : bodyLength k ≤ length rest
   pub ranges : inRange k rest ≡ true
-  pub ends : endsRight j k rest ≡ true
-  pub order : inOrder j k rest ≡ true
+  pub fits : misfit j k rest ≡ 0
 
 -- the reader comes to this place of the file with this job so far, past records without trouble
 pub data Reached (file : List ℕ) : ℕ → Job → Type 0 where

@@ -1,5 +1,5 @@
 -- What a job is (01: "A job is its rack, steps and links").
-use mathlib.Core.List.{List, []}
+use mathlib.Core.List.{List, [], _++_}
 use Prim.Native.Nat.{ℕ}
 use Rattle.job.specs.declared.Platform.{Platform}
 
@@ -18,3 +18,13 @@ pub record Job : Type 0 where
 -- nothing read yet: no rack (its n is 1 to 16, so 0 stands for none), no steps, no links
 unfoldable pub blank : Job
 blank = record { platform = record { processors = 0; topology = 0; unit = 0 }; tasks = []; edges = [] }
+
+-- a job with this rack, with these steps more, with these links more
+abbrev pub withRack : Job → Platform → Job
+withRack j p = record { platform = p; tasks = j .tasks; edges = j .edges }
+
+abbrev pub withTasks : Job → List ℕ → Job
+withTasks j ts = record { platform = j .platform; tasks = j .tasks ++ ts; edges = j .edges }
+
+abbrev pub withEdges : Job → List Edge → Job
+withEdges j es = record { platform = j .platform; tasks = j .tasks; edges = j .edges ++ es }

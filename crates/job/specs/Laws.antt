@@ -1,9 +1,12 @@
 -- What follows from the definitions and serves the proofs; a reader of the contracts needs none of it.
 pub mod Judged
+pub mod Order
+pub mod Due
 pub mod Kinds
 pub mod Spare
 pub mod Columns
 pub mod Sizes
+pub mod Putting
 pub mod Tests
 pub mod Turn
 pub mod Lists

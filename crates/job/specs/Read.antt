@@ -8,14 +8,20 @@ use lib.ListN.{length, replicate}
 use Rattle.job.specs.declared.Verdict.{Verdict}
 use Rattle.job.specs.declared.Verdict.the-variants.{Counts, Refused}
 use Rattle.base.specs.Choice.{pick}
+use Rattle.job.specs.declared.Arrays.{Arrays}
 use Rattle.job.specs.declared.Reading.{Reading}
 use Rattle.job.specs.Job.{Edge, Job, blank}
-use Rattle.job.specs.Record.{Kind, rack, step, link, end, kindOf, bodyLength, empty, stands, full, inRange, endsRight, inOrder, added}
+use Rattle.job.specs.Record.{Kind, rack, step, link, end, kindOf, bodyLength, empty, stands, full, inRange, misfit, added}
 
 -- a file is accepted as a job, or refused with a number of the refusal table
 pub data Answer : Type 0 where
   accepted : Job → Answer
   refused : ℕ → Answer
+
+-- refused with a trouble's number; 0 is no trouble, and then the answer is `a`
+abbrev pub refusedOr : ℕ → Answer → Answer
+refusedOr zero a = a
+refusedOr (suc n) a = refused (suc n)
 
 -- after a record without trouble: at the end record no byte may be left (8), else `more` goes on past the body
 unfoldable pub after : Kind → List ℕ → Job → (ℕ → Job → Answer) → Answer
@@ -32,9 +38,8 @@ judged (some k) rest j more =
     (pick (full j k) (refused 5)
     (pick (ltb (length rest) (bodyLength k)) (refused 1)
     (pick (not (inRange k rest)) (refused 4)
-    (pick (not (endsRight j k rest)) (refused 6)
-    (pick (not (inOrder j k rest)) (refused 7)
-    (after k rest j more))))))
+    (refusedOr (misfit j k rest)
+    (after k rest j more)))))
 
 -- 01: "Records are judged from the left, and the first trouble counts"; `skip` bytes of the body just judged are passed over
 unfoldable pub records : List ℕ → ℕ → Job → Answer
@@ -55,21 +60,16 @@ verdictNumber (Refused k) = k
 unfoldable pub padded : ℕ → List ℕ → List ℕ
 padded n xs = xs ++ replicate (n - length xs) 0
 
--- the answer as `read` returns it: the verdict beside the platform and the arrays, all 0 on a refusal
-unfoldable pub readingOf : Answer → Reading
-readingOf (accepted j) = record {
-  verdict = Counts (length (j .tasks)) (length (j .edges));
-  platform = j .platform;
+-- the arrays of a job
+unfoldable pub arraysOf : Job → Arrays
+arraysOf j = record {
   durations = padded 256 (j .tasks);
   from = padded 1024 (map (λ (e : Edge). e .from) (j .edges));
   to = padded 1024 (map (λ (e : Edge). e .to) (j .edges));
   counts = padded 1024 (map (λ (e : Edge). e .count) (j .edges));
 }
-readingOf (refused k) = record {
-  verdict = Refused k;
-  platform = record { processors = 0; topology = 0; unit = 0 };
-  durations = padded 256 [];
-  from = padded 1024 [];
-  to = padded 1024 [];
-  counts = padded 1024 [];
-}
+
+-- the answer as `read` returns it: the verdict beside the platform and the arrays, all 0 on a refusal
+unfoldable pub readingOf : Answer → Reading
+readingOf (accepted j) = record { verdict = Counts (length (j .tasks)) (length (j .edges)); platform = j .platform; arrays = arraysOf j }
+readingOf (refused k) = record { verdict = Refused k; platform = blank .platform; arrays = arraysOf blank }

@@ -1,8 +1,8 @@
 -- The records of a job file, in the order of document 01's section "The job file": one definition each for the kinds,
--- the length of a body, where a kind may stand, how many there may be, ranges, ends of a link, order of links.
+-- the length of a body, where a kind may stand, how many there may be, ranges, what else a record must fit.
 -- A `body` is what follows the kind byte; only the bytes that belong to it are looked at.
 use mathlib.Core.Bool.{Bool, true, false, not, _&&_, _||_}
-use mathlib.Core.List.{List, [], _∷_, _++_}
+use mathlib.Core.List.{List, [], _∷_}
 use mathlib.Core.Option.{Option, none, some}
 use Prim.Native.Nat.{ℕ}
 use lib.Dec.{leb, ltb, eqb}
@@ -10,7 +10,7 @@ use lib.ListN.{length, getD, take, drop}
 use Rattle.base.specs.Choice.{pick}
 use Rattle.base.specs.Number.{number}
 use Rattle.job.specs.declared.Platform.{Platform}
-use Rattle.job.specs.Job.{Edge, Job}
+use Rattle.job.specs.Job.{Edge, Job, withRack, withTasks, withEdges}
 
 -- 01: "kind | name"
 pub data Kind : Type 0 where
@@ -89,12 +89,6 @@ inRange end body = true
 unfoldable pub joins : ℕ → Edge → Bool
 joins m e = ltb (e .from) (e .to) && ltb (e .to) m
 
-unfoldable pub endsRight : Job → Kind → List ℕ → Bool
-endsRight j rack body = true
-endsRight j step body = true
-endsRight j link body = joins (length (j .tasks)) (edgeIn body)
-endsRight j end body = true
-
 -- 01: "Links rise strictly by from, then by to"
 unfoldable pub rises : Edge → Edge → Bool
 rises a b = ltb (a .from) (b .from) || (eqb (a .from) (b .from) && ltb (a .to) (b .to))
@@ -105,15 +99,19 @@ aboveLast [] e = true
 aboveLast (a ∷ []) e = rises a e
 aboveLast (a ∷ b ∷ es) e = aboveLast (b ∷ es) e
 
-unfoldable pub inOrder : Job → Kind → List ℕ → Bool
-inOrder j rack body = true
-inOrder j step body = true
-inOrder j link body = aboveLast (j .edges) (edgeIn body)
-inOrder j end body = true
+-- the number of what a record with values in range does not fit in the job so far, or 0: 6 for a link's ends, 7 for its order
+unfoldable pub misfit : Job → Kind → List ℕ → ℕ
+misfit j rack body = 0
+misfit j step body = 0
+misfit j link body =
+    pick (not (joins (length (j .tasks)) (edgeIn body))) 6
+    (pick (not (aboveLast (j .edges) (edgeIn body))) 7
+    0)
+misfit j end body = 0
 
 -- the job with one record more
 unfoldable pub added : Job → Kind → List ℕ → Job
-added j rack body = record { platform = platformIn body; tasks = j .tasks; edges = j .edges }
-added j step body = record { platform = j .platform; tasks = j .tasks ++ (durationIn body ∷ []); edges = j .edges }
-added j link body = record { platform = j .platform; tasks = j .tasks; edges = j .edges ++ (edgeIn body ∷ []) }
+added j rack body = withRack j (platformIn body)
+added j step body = withTasks j (durationIn body ∷ [])
+added j link body = withEdges j (edgeIn body ∷ [])
 added j end body = j

@@ -5,15 +5,16 @@ use mathlib.Core.List.{List}
 use Prim.Native.Nat.{ℕ, suc, _≤_, _<_}
 use native.Mathlib.Omega.{arith}
 use lib.ListN.{length, getD, drop}
+use Rattle.job.specs.declared.Arrays.{Arrays}
 use Rattle.job.specs.declared.Platform.{Platform}
 use Rattle.job.specs.declared.Written.the-variants.{Refused}
 use Rattle.job.specs.Job.{Job}
 use Rattle.job.specs.Record.{kindOf}
 use Rattle.job.specs.Read.{refused, readJob}
 use Rattle.job.specs.Cause.{Cause, Reached}
-use Rattle.job.specs.Write.{fileOf, fileLength, heldJob, Held, writeAnswer}
+use Rattle.job.specs.Write.{fileOf, heldJob, Held, writeAnswer}
 use Rattle.job.specs.Laws.Met.{writer-numbers}
-use Rattle.job.specs.Laws.Halt.{halts-at, cause-number, count-refused, room-refused}
+use Rattle.job.specs.Laws.Halt.{halts-at, cause-number, many-counts, count-refused, room-refused}
 
 -- the reader refuses at a place that it comes to with the job so far: there the file ends (1), or the record has the number's cause
 pub read-refused : (file : List ℕ) (n : ℕ) → readJob file ≡ refused n →
@@ -27,11 +28,12 @@ read-numbers file n e = ⊎-elim (λ h. omega arith) (λ h. cause-number (h .1))
 
 -- the writer refuses with 5 for a count too large, with the reader's number for the job's file, or with 9 for too little room
 pub write-refused : (m l n : ℕ) (j : Job) (out : List ℕ) → writeAnswer m l j out ≡ Refused n →
-    ((n ≡ 5) × ((256 < m) ⊎ (1024 < l))) ⊎ ((readJob (fileOf j) ≡ refused n) ⊎ ((n ≡ 9) × (length out < fileLength m l)))
+    ((n ≡ 5) × ((256 < m) ⊎ (1024 < l))) ⊎ ((readJob (fileOf j) ≡ refused n) ⊎ ((n ≡ 9) × (length out < length (fileOf j))))
 unfolding writeAnswer
-write-refused m l n j out e = ⊎-elim inl (λ h. inr (room-refused (fileLength m l) n out (readJob (fileOf j)) h)) (count-refused m l n _ e)
+write-refused m l n j out e = ⊎-elim (λ h. inl (h .0, many-counts m l (h .1)))
+    (λ h. inr (room-refused n (fileOf j) out (readJob (fileOf j)) h)) (count-refused m l n _ e)
 
 -- the writer's numbers are 3 to 7 and 9
-pub write-numbers : (p : Platform) (m l : ℕ) (durations from to counts out : List ℕ) (n : ℕ) → Held durations to counts →
-    writeAnswer m l (heldJob p m l durations from to counts) out ≡ Refused n → ((3 ≤ n) × (n ≤ 7)) ⊎ (n ≡ 9)
-write-numbers p m l durations from to counts out n h e = writer-numbers p m l durations from to counts out n h e
+pub write-numbers : (p : Platform) (m l : ℕ) (a : Arrays) (out : List ℕ) (n : ℕ) → Held a →
+    writeAnswer m l (heldJob p m l a) out ≡ Refused n → ((3 ≤ n) × (n ≤ 7)) ⊎ (n ≡ 9)
+write-numbers p m l a out n h e = writer-numbers p m l a out n h e

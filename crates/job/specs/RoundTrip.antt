@@ -1,45 +1,39 @@
 -- The two round trips, and how much of a file settles its answer.
 use mathlib.Core.Path.{_≡_}
 use mathlib.Core.List.{List, _++_}
-use Prim.Native.Nat.{ℕ, _≤_, _<_, _^_}
-use native.Mathlib.Omega.{arith}
+use Prim.Native.Nat.{ℕ, _+_, _*_, _≤_, _<_}
 use lib.ListN.{length, getD, take, drop}
 use Rattle.base.specs.Number.{Bytes}
-use Rattle.base.specs.Laws.Values.{length-values, each-value, values-back}
+use Rattle.base.specs.Laws.Values.{values-back}
+use Rattle.job.specs.declared.Arrays.{Arrays}
 use Rattle.job.specs.declared.Platform.{Platform}
 use Rattle.job.specs.declared.Written.the-variants.{Length}
 use Rattle.job.specs.Job.{Job}
-use Rattle.job.specs.Read.{accepted, readJob, padded, readingOf}
-use Rattle.job.specs.Write.{fileOf, fileLength, edgeHeld, heldJob, Held, writeAnswer, writeOut}
+use Rattle.job.specs.Read.{accepted, readJob, padded, arraysOf, readingOf}
+use Rattle.job.specs.Write.{fileOf, greatestLength, heldJob, Held, writeAnswer, writeOut}
 use Rattle.job.specs.Accepted.{Accepted, accepted-job}
-use Rattle.job.specs.Pass.{edge}
 use Rattle.job.specs.Laws.Written.{file-size, read-back}
+use Rattle.job.specs.Laws.Halt.{few-counts}
+use Rattle.job.specs.Laws.Met.{held-writable}
 use Rattle.job.specs.Laws.Lists.{padded-at}
 use Rattle.job.specs.Laws.Columns.{edges-held}
 use Rattle.job.specs.Laws.Rewritten.{written-back, file-bound}
 use Rattle.job.specs.Laws.Prefix.{first-bytes}
 
--- the file has as many bytes as document 01 says
-pub file-length : (j : Job) → length (fileOf j) ≡ fileLength (length (j .tasks)) (length (j .edges))
+-- 01: "5 + 5 times (m + links) bytes"
+pub file-length : (j : Job) → length (fileOf j) ≡ 5 + 5 * (length (j .tasks) + length (j .edges))
 file-length j = file-size j
 
 -- 00: "A job that the writer takes, written out and read, is the same job"
-module _ (p : Platform) (m l : ℕ) (durations from to counts out : List ℕ) (h : Held durations to counts) where
-  abbrev held : Job
-  held = heldJob p m l durations from to counts
-
-  pub written-read : (n : ℕ) → writeAnswer m l held out ≡ Length n → readJob (take n (writeOut (Length n) held out)) ≡ accepted held
-  unfolding heldJob edgeHeld
-  written-read n e =
-      read-back held out m l n (each-value (λ t. getD durations t 0) (λ d. d < 2 ^ 32) 0 (omega arith) (h .duration-fits) 0 m)
-      (each-value (edgeHeld from to counts) (λ e. e .count < 2 ^ 16) (edge 0 0 0) (omega arith) (h .count-fits) 0 l)
-      (λ few. length-values (λ t. getD durations t 0) 0 m) (λ few. length-values (edgeHeld from to counts) 0 l) e
+pub written-read : (p : Platform) (m l : ℕ) (a : Arrays) (out : List ℕ) (n : ℕ) → Held a →
+    writeAnswer m l (heldJob p m l a) out ≡ Length n →
+    readJob (take n (writeOut (Length n) (heldJob p m l a) out)) ≡ accepted (heldJob p m l a)
+written-read p m l a out n h e = read-back (heldJob p m l a) out m l n (λ few. held-writable p m l a (few-counts m l few) h) e
 
 -- 00: "an accepted file written out is the same bytes": the arrays that the reader gives hold the job, ..
-pub read-held : (j : Job) →
-    heldJob (j .platform) (length (j .tasks)) (length (j .edges)) (readingOf (accepted j) .durations)
-    (readingOf (accepted j) .from) (readingOf (accepted j) .to) (readingOf (accepted j) .counts) ≡ j
-unfolding heldJob readingOf
+pub read-held : (j : Job) → heldJob (readingOf (accepted j) .platform) (length (j .tasks)) (length (j .edges))
+    (readingOf (accepted j) .arrays) ≡ j
+unfolding heldJob readingOf arraysOf
 read-held j = rw (values-back 0 (j .tasks) (λ t. getD (padded 256 (j .tasks)) t 0) (padded-at 256 (j .tasks)), edges-held (j .edges))
 
 -- .. the writer takes it where there is room, and what it writes is the file
@@ -50,12 +44,12 @@ read-written file j out b e h =
     let a : Accepted j = accepted-job file j e in
     written-back file j out b e h (a .few-tasks) (a .few-edges)
 
--- 01: "The greatest file has 6,405 bytes"
-pub greatest-file : (file : List ℕ) (j : Job) → Bytes file → readJob file ≡ accepted j → length file ≤ 6405
+-- no accepted file is longer than the greatest one
+pub greatest-file : (file : List ℕ) (j : Job) → Bytes file → readJob file ≡ accepted j → length file ≤ greatestLength
 greatest-file file j b e =
     let a : Accepted j = accepted-job file j e in
     file-bound file j b e (a .few-tasks) (a .few-edges)
 
--- the answer to a file is settled by its first 6,406 bytes
-pub settled : (file : List ℕ) → readJob (take 6406 file) ≡ readJob file
-settled file = first-bytes file
+-- so many bytes that no accepted file has them settle the answer to a file
+pub settled : (file : List ℕ) (n : ℕ) → greatestLength < n → readJob (take n file) ≡ readJob file
+settled file n h = first-bytes file n h

@@ -1,13 +1,14 @@
 -- The writer: the file of a job, and what `write` returns and leaves in the borrowed slice.
-use mathlib.Core.Bool.{_||_}
+use mathlib.Core.Bool.{Bool, _||_}
 use mathlib.Core.Path.{_≡_}
 use mathlib.Core.List.{List, [], _∷_, _++_, flatMap}
-use Prim.Native.Nat.{ℕ, _+_, _*_, _^_, _<_}
+use Prim.Native.Nat.{ℕ, _^_, _<_}
 use lib.Dec.{ltb}
 use lib.ListN.{length, getD, drop}
 use Rattle.base.specs.Lists.{values}
 use Rattle.base.specs.Choice.{pick}
 use Rattle.base.specs.Number.{bytes}
+use Rattle.job.specs.declared.Arrays.{Arrays}
 use Rattle.job.specs.declared.Platform.{Platform}
 use Rattle.job.specs.declared.Written.{Written}
 use Rattle.job.specs.declared.Written.the-variants.{Length, Refused}
@@ -30,34 +31,45 @@ linkBytes e = 3 ∷ e .from ∷ e .to ∷ bytes 2 (e .count)
 unfoldable pub fileOf : Job → List ℕ
 fileOf j = rackBytes (j .platform) ++ (flatMap stepBytes (j .tasks) ++ (flatMap linkBytes (j .edges) ++ (4 ∷ [])))
 
--- 01: "5 + 5 times (m + links) bytes"
-unfoldable pub fileLength : ℕ → ℕ → ℕ
-fileLength m l = 5 + 5 * (m + l)
+-- 01: "The greatest file has 6,405 bytes"
+abbrev pub greatestLength : ℕ
+greatestLength = 6405
 
 -- the edge whose parts stand at place i of three arrays
 unfoldable pub edgeHeld : List ℕ → List ℕ → List ℕ → ℕ → Edge
 edgeHeld from to counts i = record { from = getD from i 0; to = getD to i 0; count = getD counts i 0 }
 
 -- a job held as numbers: the first m durations and the first l edges; spare places are not read
-unfoldable pub heldJob : Platform → ℕ → ℕ → List ℕ → List ℕ → List ℕ → List ℕ → Job
-heldJob p m l durations from to counts =
-    record { platform = p; tasks = values (λ t. getD durations t 0) 0 m; edges = values (edgeHeld from to counts) 0 l }
+unfoldable pub heldJob : Platform → ℕ → ℕ → Arrays → Job
+heldJob p m l a = record {
+  platform = p;
+  tasks = values (λ t. getD (a .durations) t 0) 0 m;
+  edges = values (edgeHeld (a .from) (a .to) (a .counts)) 0 l;
+}
+
+-- the arrays in their struct
+abbrev pub gathered : List ℕ → List ℕ → List ℕ → List ℕ → Arrays
+gathered durations from to counts = record { durations = durations; from = from; to = to; counts = counts }
 
 -- arrays hold what their types can: durations of 32 bits, an edge's end of 8, message counts of 16
-pub record Held (durations to counts : List ℕ) : Type 0 where
-  pub duration-fits : (t : ℕ) → getD durations t 0 < 2 ^ 32
-  pub to-fits : (i : ℕ) → getD to i 0 < 2 ^ 8
-  pub count-fits : (i : ℕ) → getD counts i 0 < 2 ^ 16
+pub record Held (a : Arrays) : Type 0 where
+  pub duration-fits : (t : ℕ) → getD (a .durations) t 0 < 2 ^ 32
+  pub to-fits : (i : ℕ) → getD (a .to) i 0 < 2 ^ 8
+  pub count-fits : (i : ℕ) → getD (a .counts) i 0 < 2 ^ 16
 
--- 9 if the output is too short
-unfoldable pub roomFor : ℕ → List ℕ → Answer → Written
-roomFor n out (accepted j) = pick (ltb (length out) n) (Refused 9) (Length n)
-roomFor n out (refused k) = Refused k
+-- where the reader accepts it, a file is written; 9 if the output is too short for it
+unfoldable pub roomFor : List ℕ → List ℕ → Answer → Written
+roomFor file out (accepted j) = pick (ltb (length out) (length file)) (Refused 9) (Length (length file))
+roomFor file out (refused k) = Refused k
 
--- 01: "5 first if a count of any kind is above what a job can hold (256 steps, 1,024 links), then as the reader would meet
--- its records, then 9"; as the reader would meet its records: as it answers to the file of the job
+-- 01: "a count of any kind is above what a job can hold (256 steps, 1,024 links)"
+unfoldable pub tooMany : ℕ → ℕ → Bool
+tooMany m l = ltb 256 m || ltb 1024 l
+
+-- 01: "5 first if a count of any kind is above what a job can hold .., then as the reader would meet its records, then 9";
+-- as the reader would meet its records: as it answers to the file of the job
 unfoldable pub writeAnswer : ℕ → ℕ → Job → List ℕ → Written
-writeAnswer m l j out = pick (ltb 256 m || ltb 1024 l) (Refused 5) (roomFor (fileLength m l) out (readJob (fileOf j)))
+writeAnswer m l j out = pick (tooMany m l) (Refused 5) (roomFor (fileOf j) out (readJob (fileOf j)))
 
 -- the output afterwards: the file where the job was written, and what it held everywhere else
 unfoldable pub writeOut : Written → Job → List ℕ → List ℕ

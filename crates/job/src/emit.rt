@@ -3,12 +3,13 @@ use crate::Platform;
 use crate::record;
 ghost use mathlib.Core.Path.{_≡_};
 ghost use Prim.Native.Nat.{_+_, _*_, _≤_, _<_};
-ghost use mathlib.Core.List.{flatMap};
+ghost use mathlib.Core.List.{[], _∷_, flatMap};
 ghost use lib.ListN.{length, getD};
-ghost use lib.Seq.{sets};
 ghost use Rattle.base.specs.Lists.{values};
-ghost use Rattle.job.specs.Write.{edgeHeld, heldJob, rackBytes, stepBytes, linkBytes, fileOf};
-ghost use Rattle.job.specs.Pass.{edge, StepsJudged, LinksJudged, JobJudged};
+ghost use Rattle.base.specs.Slices.{Put};
+ghost use Rattle.job.specs.Job.{Job};
+ghost use Rattle.job.specs.Write.{edgeHeld, heldJob, gathered, stepBytes, linkBytes, fileOf};
+ghost use Rattle.job.specs.Pass.{edge, StepsJudged, LinksJudged, Met};
 
 // The first trouble among the first `tasks` durations, or 0 for none.
 fn steps_trouble(durations: &[u32], tasks: usize) -> u8
@@ -46,74 +47,91 @@ fn links_trouble(tasks: usize, edges: usize, from: &[u8], to: &[u8], counts: &[u
     0
 }
 
-// Writes the rack to the first 4 bytes.
-fn put_rack(p: Platform, out: &mut [u8])
-    requires { ⌜ 4 ≤ length (now out) ⌝ }
-    ensures { λ _. ⌜ now (out .exit) ≡ sets (now (out .entry)) 0 (rackBytes p) ⌝ }
+// Puts 4 bytes.
+fn put4(out: &mut [u8], at: usize, first: u8, second: u8, third: u8, fourth: u8) -> usize
+    requires { ⌜ at + 4 ≤ length (now out) ⌝ }
+    ensures { λ r. ⌜ Put (now (out .entry)) (now (out .exit)) at r (first ∷ second ∷ third ∷ fourth ∷ []) ⌝ }
 {
-    out[0] = 1;
-    out[1] = p.processors;
-    out[2] = p.topology;
-    out[3] = p.unit;
+    out[at] = first;
+    out[at + 1] = second;
+    out[at + 2] = third;
+    out[at + 3] = fourth;
+    at + 4
 }
 
-// Writes a step's 5 bytes.
-fn put_step(duration: u32, out: &mut [u8], at: usize)
+// Puts a step.
+fn put_step(duration: u32, out: &mut [u8], at: usize) -> usize
     requires { ⌜ at + 5 ≤ length (now out) ⌝ }
-    ensures { λ _. ⌜ now (out .exit) ≡ sets (now (out .entry)) at (stepBytes duration) ⌝ }
+    ensures { λ r. ⌜ Put (now (out .entry)) (now (out .exit)) at r (stepBytes duration) ⌝ }
 {
     let second = duration / 256;
     let third = second / 256;
     let fourth = third / 256;
     out[at] = 2;
-    out[at + 1] = (duration % 256) as u8;
-    out[at + 2] = (second % 256) as u8;
-    out[at + 3] = (third % 256) as u8;
-    out[at + 4] = (fourth % 256) as u8;
+    put4(
+        out,
+        at + 1,
+        (duration % 256) as u8,
+        (second % 256) as u8,
+        (third % 256) as u8,
+        (fourth % 256) as u8,
+    )
 }
 
-// Writes a link's 5 bytes.
-fn put_link(from: u8, to: u8, count: u16, out: &mut [u8], at: usize)
+// Puts a link.
+fn put_link(from: u8, to: u8, count: u16, out: &mut [u8], at: usize) -> usize
     requires { ⌜ at + 5 ≤ length (now out) ⌝ }
-    ensures { λ _. ⌜ now (out .exit) ≡ sets (now (out .entry)) at (linkBytes (edge from to count)) ⌝ }
+    ensures { λ r. ⌜ Put (now (out .entry)) (now (out .exit)) at r (linkBytes (edge from to count)) ⌝ }
 {
     let second = count / 256;
     out[at] = 3;
-    out[at + 1] = from;
-    out[at + 2] = to;
-    out[at + 3] = (count % 256) as u8;
-    out[at + 4] = (second % 256) as u8;
+    put4(
+        out,
+        at + 1,
+        from,
+        to,
+        (count % 256) as u8,
+        (second % 256) as u8,
+    )
 }
 
-// Writes the first `tasks` steps from byte 4 on.
-fn put_steps(durations: &[u32; 256], tasks: usize, out: &mut [u8])
-    requires { ⌜ (tasks ≤ 256) × (4 + 5 * tasks ≤ length (now out)) ⌝ }
-    ensures { λ _. ⌜ now (out .exit) ≡ sets (now (out .entry)) 4 (flatMap stepBytes (values (λ t. getD (now (durations .entry)) t 0) 0 tasks)) ⌝ }
+// Puts the first `tasks` steps.
+fn put_steps(durations: &[u32; 256], tasks: usize, out: &mut [u8], start: usize) -> usize
+    requires { ⌜ tasks ≤ 256 ⌝ }
+    requires { ⌜ start + length (flatMap stepBytes (values (λ t. getD (now durations) t 0) 0 tasks)) ≤ length (now out) ⌝ }
+    ensures { λ r. ⌜ Put (now (out .entry)) (now (out .exit)) start r
+        (flatMap stepBytes (values (λ t. getD (now (durations .entry)) t 0) 0 tasks)) ⌝ }
 {
+    let mut at = start;
     let mut i: usize = 0;
     while i < tasks {
-        put_step(durations[i], out, 4 + 5 * i);
+        at = put_step(durations[i], out, at);
         i += 1;
     }
+    at
 }
 
-// Writes the first `edges` links from byte `at` on.
+// Puts the first `edges` links.
 fn put_links(
     edges: usize,
     from: &[u8; 1024],
     to: &[u8; 1024],
     counts: &[u16; 1024],
     out: &mut [u8],
-    at: usize,
-)
-    requires { ⌜ (edges ≤ 1024) × (at + 5 * edges ≤ length (now out)) ⌝ }
-    ensures { λ _. ⌜ now (out .exit) ≡ sets (now (out .entry)) at (flatMap linkBytes (values (edgeHeld (now (from .entry)) (now (to .entry)) (now (counts .entry))) 0 edges)) ⌝ }
+    start: usize,
+) -> usize
+    requires { ⌜ edges ≤ 1024 ⌝ }
+    requires { ⌜ start + length (flatMap linkBytes (values (edgeHeld (now from) (now to) (now counts)) 0 edges)) ≤ length (now out) ⌝ }
+    ensures { λ r. ⌜ Put (now (out .entry)) (now (out .exit)) start r
+        (flatMap linkBytes (values (edgeHeld (now (from .entry)) (now (to .entry)) (now (counts .entry))) 0 edges)) ⌝ }
 {
+    let mut at = start;
     let mut i: usize = 0;
     while i < edges {
-        put_link(from[i], to[i], counts[i], out, at + 5 * i);
+        at = put_link(from[i], to[i], counts[i], out, at);
         i += 1;
     }
+    at
 }
 
 // The trouble of a job held as numbers, as the reader would meet its records, or 0 for none.
@@ -127,9 +145,10 @@ pub fn job_trouble<'a>(
     counts: &'a [u16; 1024],
 ) -> u8
     requires { ⌜ (tasks ≤ 256) × (edges ≤ 1024) ⌝ }
-    ensures { λ r. ⌜ JobJudged (heldJob platform tasks edges (now (durations .entry)) (now (from .entry)) (now (to .entry)) (now (counts .entry))) r ⌝ }
+    ensures { λ r. ⌜ Met
+        (heldJob platform tasks edges (gathered (now (durations .entry)) (now (from .entry)) (now (to .entry)) (now (counts .entry)))) r ⌝ }
 {
-    let trouble = record::platform_trouble(platform.processors, platform.topology, platform.unit);
+    let trouble = record::platform_trouble(platform);
     if trouble != 0 {
         return trouble;
     }
@@ -143,7 +162,15 @@ pub fn job_trouble<'a>(
     links_trouble(tasks, edges, from, to, counts)
 }
 
-// Writes the file of a job held as numbers.
+// The length of the file of a job with so many tasks and edges.
+pub fn file_length(tasks: usize, edges: usize) -> usize
+    requires { ⌜ (tasks ≤ 256) × (edges ≤ 1024) ⌝ }
+    ensures { λ r. ⌜ ((j : Job) → length (j .tasks) ≡ tasks → length (j .edges) ≡ edges → r ≡ length (fileOf j)) ⌝ }
+{
+    5 + 5 * (tasks + edges)
+}
+
+// Puts the file of a job held as numbers at the front, and answers its length.
 pub fn put_job<'a>(
     platform: Platform,
     tasks: usize,
@@ -153,14 +180,23 @@ pub fn put_job<'a>(
     to: &'a [u8; 1024],
     counts: &'a [u16; 1024],
     out: &mut [u8],
-)
-    requires { ⌜ (tasks ≤ 256) × (edges ≤ 1024) × (5 + 5 * (tasks + edges) ≤ length (now out)) ⌝ }
-    ensures { λ _. ⌜ now (out .exit) ≡ sets (now (out .entry)) 0 (fileOf (heldJob platform tasks edges (now (durations .entry)) (now (from .entry)) (now (to .entry)) (now (counts .entry)))) ⌝ }
+) -> usize
+    requires { ⌜ (tasks ≤ 256) × (edges ≤ 1024) ⌝ }
+    requires { ⌜ length (fileOf (heldJob platform tasks edges (gathered (now durations) (now from) (now to) (now counts))))
+        ≤ length (now out) ⌝ }
+    ensures { λ r. ⌜ Put (now (out .entry)) (now (out .exit)) 0 r (fileOf
+        (heldJob platform tasks edges (gathered (now (durations .entry)) (now (from .entry)) (now (to .entry)) (now (counts .entry))))) ⌝ }
 {
-    let links = 4 + 5 * tasks;
-    let end = links + 5 * edges;
-    put_rack(platform, out);
-    put_steps(durations, tasks, out);
-    put_links(edges, from, to, counts, out, links);
+    let steps = put4(
+        out,
+        0,
+        1,
+        platform.processors,
+        platform.topology,
+        platform.unit,
+    );
+    let links = put_steps(durations, tasks, out, steps);
+    let end = put_links(edges, from, to, counts, out, links);
     out[end] = 4;
+    end + 1
 }

@@ -4,9 +4,9 @@ mod parse;
 mod record;
 
 ghost use mathlib.Core.Path.{_≡_};
-ghost use Rattle.job.specs.Read.{refused, readJob, verdictNumber, readingOf};
+ghost use Rattle.job.specs.Job.{blank};
+ghost use Rattle.job.specs.Read.{refused, readJob, verdictNumber, arraysOf, readingOf};
 ghost use Rattle.job.specs.Write.{heldJob, WrittenAs};
-use parse::Pass;
 
 // Processors n, topology (0 complete, 1 hypercube, 2 ring) and unit cost c (01: the rack).
 pub struct Platform {
@@ -21,14 +21,19 @@ pub enum Verdict {
     Refused(u8),
 }
 
-// The verdict beside the job: spare places are 0, all are 0 on a refusal.
-pub struct Reading {
-    pub verdict: Verdict,
-    pub platform: Platform,
+// A job's numbers: the duration of each task, and the ends and the message count of each edge. Places past the last are spare.
+pub struct Arrays {
     pub durations: [u32; 256],
     pub from: [u8; 1024],
     pub to: [u8; 1024],
     pub counts: [u16; 1024],
+}
+
+// The verdict beside the job: spare places are 0, all are 0 on a refusal. The arrays stand first, so that they are copied aligned.
+pub struct Reading {
+    pub arrays: Arrays,
+    pub verdict: Verdict,
+    pub platform: Platform,
 }
 
 // What writing a job gives: the length written, or the refusal's number.
@@ -47,16 +52,10 @@ pub fn number(verdict: Verdict) -> u8
     }
 }
 
-fn refusal(number: u8) -> Reading
-    ensures { λ r. ⌜ r ≡ readingOf (refused number) ⌝ }
+fn zeros() -> Arrays
+    ensures { λ r. ⌜ r ≡ arraysOf blank ⌝ }
 {
-    Reading {
-        verdict: Verdict::Refused(number),
-        platform: Platform {
-            processors: 0,
-            topology: 0,
-            unit: 0,
-        },
+    Arrays {
         durations: [0u32; 256],
         from: [0u8; 1024],
         to: [0u8; 1024],
@@ -64,65 +63,72 @@ fn refusal(number: u8) -> Reading
     }
 }
 
+fn refusal(number: u8) -> Reading
+    ensures { λ r. ⌜ r ≡ readingOf (refused number) ⌝ }
+{
+    let arrays = zeros();
+    Reading {
+        verdict: Verdict::Refused(number),
+        platform: Platform {
+            processors: 0,
+            topology: 0,
+            unit: 0,
+        },
+        arrays,
+    }
+}
+
 // Reads a job file (01: the reader).
 pub fn read(file: &[u8]) -> Reading
     ensures { λ r. ⌜ r ≡ readingOf (readJob (now (file .entry))) ⌝ }
 {
-    let trouble = parse::rack(file);
+    let rack = parse::rack(file);
+    if rack.trouble != 0 {
+        return refusal(rack.trouble);
+    }
+    let platform = rack.platform;
+    let mut arrays = zeros();
+    let steps = parse::steps(file, rack.next, &mut arrays.durations);
+    if steps.trouble != 0 {
+        return refusal(steps.trouble);
+    }
+    let tasks = steps.count;
+    let mut edges: usize = 0;
+    let mut least: u32 = 0;
+    let mut at = steps.next;
+    while parse::stands(file, at, 3) {
+        let link = parse::link(file, at, tasks, edges, least);
+        if link.trouble != 0 {
+            return refusal(link.trouble);
+        }
+        arrays.from[edges] = link.from;
+        arrays.to[edges] = link.to;
+        arrays.counts[edges] = link.count;
+        edges += 1;
+        least = link.least;
+        at = link.next;
+    }
+    let trouble = parse::end(file, at);
     if trouble != 0 {
         return refusal(trouble);
-    }
-    let platform = Platform {
-        processors: file[1],
-        topology: file[2],
-        unit: file[3],
-    };
-    let mut durations = [0u32; 256];
-    let steps = parse::steps(file, &mut durations);
-    let Pass::Count(tasks) = steps else {
-        return refusal(parse::trouble(steps));
-    };
-    if tasks == 0 {
-        return refusal(parse::misplaced(file[4]));
-    }
-    let mut from = [0u8; 1024];
-    let mut to = [0u8; 1024];
-    let mut counts = [0u16; 1024];
-    let links = parse::links(file, tasks, &mut from, &mut to, &mut counts);
-    let Pass::Count(edges) = links else {
-        return refusal(parse::trouble(links));
-    };
-    let at = 4 + 5 * tasks + 5 * edges;
-    let kind = file[at];
-    if kind != 4 {
-        return refusal(parse::misplaced(kind));
-    }
-    if at + 1 < file.len() {
-        return refusal(8);
     }
     Reading {
         verdict: Verdict::Counts { tasks, edges },
         platform,
-        durations,
-        from,
-        to,
-        counts,
+        arrays,
     }
 }
 
 // Writes a job held as numbers: its platform, its first `tasks` durations and its first `edges` edges (01: the writer).
 // Nothing is written before the whole job is judged.
-pub fn write<'a>(
+pub fn write(
     platform: Platform,
     tasks: usize,
     edges: usize,
-    durations: &'a [u32; 256],
-    from: &'a [u8; 1024],
-    to: &'a [u8; 1024],
-    counts: &'a [u16; 1024],
+    arrays: Arrays,
     out: &mut [u8],
 ) -> Written
-    ensures { λ r. ⌜ WrittenAs r (now (out .exit)) tasks edges (heldJob platform tasks edges (now (durations .entry)) (now (from .entry)) (now (to .entry)) (now (counts .entry))) (now (out .entry)) ⌝ }
+    ensures { λ r. ⌜ WrittenAs r (now (out .exit)) tasks edges (heldJob platform tasks edges arrays) (now (out .entry)) ⌝ }
 {
     if 256 < tasks {
         return Written::Refused(5);
@@ -130,14 +136,30 @@ pub fn write<'a>(
     if 1024 < edges {
         return Written::Refused(5);
     }
-    let number = emit::job_trouble(platform, tasks, edges, durations, from, to, counts);
+    let number = emit::job_trouble(
+        platform,
+        tasks,
+        edges,
+        &arrays.durations,
+        &arrays.from,
+        &arrays.to,
+        &arrays.counts,
+    );
     if number != 0 {
         return Written::Refused(number);
     }
-    let length = 5 + 5 * (tasks + edges);
-    if out.len() < length {
+    if out.len() < emit::file_length(tasks, edges) {
         return Written::Refused(9);
     }
-    emit::put_job(platform, tasks, edges, durations, from, to, counts, out);
+    let length = emit::put_job(
+        platform,
+        tasks,
+        edges,
+        &arrays.durations,
+        &arrays.from,
+        &arrays.to,
+        &arrays.counts,
+        out,
+    );
     Written::Length(length)
 }

@@ -1,122 +1,230 @@
-// The reader's passes: the rack, the steps, the links. A pass stops at the first record of another kind, which the reader judges.
+// The reader's parts: one record, or a pass over one kind of record, from a place of the file to the place after it.
+use crate::Platform;
 use crate::record;
 ghost use mathlib.Core.Path.{_≡_};
-ghost use Prim.Native.Nat.{_+_, _*_, _≤_, _<_};
-ghost use lib.ListN.{length, replicate};
-ghost use Rattle.job.specs.Pass.{RackPassed, StepsPassed, LinksPassed, misplacedNumber, troubleOf};
+ghost use mathlib.Core.Option.{some};
+ghost use Prim.Native.Nat.{_≤_, _<_};
+ghost use lib.ListN.{length, getD, replicate};
+ghost use Rattle.job.specs.Record.{step as isStep, link as isLink, kindOf};
+ghost use Rattle.job.specs.Pass.{StandsThere, misplacedNumber, RackPassed, StepPassed, StepsPassed, LinkPassed, EndPassed};
 
-// How many records of its kind a pass took, or the number of the trouble that it met.
-pub enum Pass {
-    Count(usize),
-    Trouble(u8),
+// The rack's trouble, or 0 with its values and the place after it.
+pub struct FoundRack {
+    pub trouble: u8,
+    pub platform: Platform,
+    pub next: usize,
 }
 
-pub fn trouble(pass: Pass) -> u8
-    ensures { λ r. ⌜ r ≡ troubleOf pass ⌝ }
+// A step's trouble, or 0 with its value and the place after it.
+pub struct FoundStep {
+    pub trouble: u8,
+    pub duration: u32,
+    pub next: usize,
+}
+
+// A link's trouble, or 0 with its values, the least key above it and the place after it.
+pub struct FoundLink {
+    pub trouble: u8,
+    pub from: u8,
+    pub to: u8,
+    pub count: u16,
+    pub least: u32,
+    pub next: usize,
+}
+
+// The trouble that a pass met, or 0 with how many records it took and the place after them.
+pub struct Pass {
+    pub trouble: u8,
+    pub count: usize,
+    pub next: usize,
+}
+
+// A record of this kind stands at `at`.
+pub fn stands(file: &[u8], at: usize, kind: u8) -> bool
+    ensures { λ r. ⌜ StandsThere (now (file .entry)) at kind r ⌝ }
 {
-    match pass {
-        Pass::Count(_) => 0,
-        Pass::Trouble(number) => number,
+    if file.len() <= at {
+        return false;
     }
+    file[at] == kind
 }
 
 // The number for a kind that may not stand here: 3, or 2 where it is unknown.
-pub fn misplaced(kind: u8) -> u8
-    ensures { λ r. ⌜ r ≡ misplacedNumber kind ⌝ }
+fn misplaced(kind: u8) -> u8
+    ensures { λ r. ⌜ r ≡ misplacedNumber (kindOf kind) ⌝ }
 {
-    if kind < 1 {
-        return 2;
+    match kind {
+        1 => 3,
+        2 => 3,
+        3 => 3,
+        4 => 3,
+        _ => 2,
     }
-    if 4 < kind {
-        return 2;
-    }
-    3
 }
 
-// The trouble of the rack at the file's first byte, or 0 for none.
-pub fn rack(file: &[u8]) -> u8
+// The rack at the file's first byte.
+pub fn rack(file: &[u8]) -> FoundRack
     ensures { λ r. ⌜ RackPassed (now (file .entry)) r ⌝ }
 {
+    let none = Platform {
+        processors: 0,
+        topology: 0,
+        unit: 0,
+    };
     if file.len() == 0 {
-        return 1;
+        return FoundRack {
+            trouble: 1,
+            platform: none,
+            next: 0,
+        };
     }
     let kind = file[0];
     if kind != 1 {
-        return misplaced(kind);
+        return FoundRack {
+            trouble: misplaced(kind),
+            platform: none,
+            next: 0,
+        };
     }
     if file.len() < 4 {
+        return FoundRack {
+            trouble: 1,
+            platform: none,
+            next: 0,
+        };
+    }
+    let platform = Platform {
+        processors: file[1],
+        topology: file[2],
+        unit: file[3],
+    };
+    FoundRack {
+        trouble: record::platform_trouble(platform),
+        platform,
+        next: 4,
+    }
+}
+
+// The step at `at`, after `tasks` steps.
+fn step(file: &[u8], at: usize, tasks: usize) -> FoundStep
+    requires { ⌜ (at < length (now file)) × (kindOf (getD (now file) at 0) ≡ some isStep) × (tasks ≤ 256) ⌝ }
+    ensures { λ r. ⌜ StepPassed (now (file .entry)) at tasks r ⌝ }
+{
+    if tasks == 256 {
+        return FoundStep {
+            trouble: 5,
+            duration: 0,
+            next: at,
+        };
+    }
+    if file.len() - at < 5 {
+        return FoundStep {
+            trouble: 1,
+            duration: 0,
+            next: at,
+        };
+    }
+    let duration = record::number4(file, at + 1);
+    FoundStep {
+        trouble: record::step_trouble(duration),
+        duration,
+        next: at + 5,
+    }
+}
+
+// The steps from `start` on, of which there must be one.
+pub fn steps(file: &[u8], start: usize, durations: &mut [u32; 256]) -> Pass
+    requires { ⌜ (start ≤ length (now file)) × (now durations ≡ replicate 256 0) ⌝ }
+    ensures { λ r. ⌜ StepsPassed (now (file .entry)) start (now (durations .exit)) r ⌝ }
+{
+    let mut count: usize = 0;
+    let mut at = start;
+    while stands(file, at, 2) {
+        let step = step(file, at, count);
+        if step.trouble != 0 {
+            return Pass {
+                trouble: step.trouble,
+                count,
+                next: at,
+            };
+        }
+        durations[count] = step.duration;
+        count += 1;
+        at = step.next;
+    }
+    if file.len() <= at {
+        return Pass {
+            trouble: 1,
+            count,
+            next: at,
+        };
+    }
+    if count == 0 {
+        return Pass {
+            trouble: misplaced(file[at]),
+            count,
+            next: at,
+        };
+    }
+    Pass {
+        trouble: 0,
+        count,
+        next: at,
+    }
+}
+
+// The link at `at`, after `tasks` steps and `edges` links; `least` is the least key above the last of these.
+pub fn link(file: &[u8], at: usize, tasks: usize, edges: usize, least: u32) -> FoundLink
+    requires { ⌜ (at < length (now file)) × (kindOf (getD (now file) at 0) ≡ some isLink) × (edges ≤ 1024) ⌝ }
+    ensures { λ r. ⌜ LinkPassed (now (file .entry)) at tasks edges least r ⌝ }
+{
+    if edges == 1024 {
+        return FoundLink {
+            trouble: 5,
+            from: 0,
+            to: 0,
+            count: 0,
+            least: 1,
+            next: at,
+        };
+    }
+    if file.len() - at < 5 {
+        return FoundLink {
+            trouble: 1,
+            from: 0,
+            to: 0,
+            count: 0,
+            least: 1,
+            next: at,
+        };
+    }
+    let from = file[at + 1];
+    let to = file[at + 2];
+    let count = record::number2(file, at + 3);
+    FoundLink {
+        trouble: record::link_trouble(from, to, count, tasks, least),
+        from,
+        to,
+        count,
+        least: record::key(from, to) + 1,
+        next: at + 5,
+    }
+}
+
+// The trouble of the end record at `at`, or 0 for none.
+pub fn end(file: &[u8], at: usize) -> u8
+    requires { ⌜ at ≤ length (now file) ⌝ }
+    ensures { λ r. ⌜ EndPassed (now (file .entry)) at r ⌝ }
+{
+    if file.len() == at {
         return 1;
     }
-    record::platform_trouble(file[1], file[2], file[3])
-}
-
-// The steps from byte 4 on.
-pub fn steps(file: &[u8], durations: &mut [u32; 256]) -> Pass
-    requires { ⌜ (4 ≤ length (now file)) × (now durations ≡ replicate 256 0) ⌝ }
-    ensures { λ r. ⌜ StepsPassed (now (file .entry)) (now (durations .exit)) r ⌝ }
-{
-    let mut m: usize = 0;
-    let mut at: usize = 4;
-    while at < file.len() {
-        if file[at] != 2 {
-            return Pass::Count(m);
-        }
-        if m == 256 {
-            return Pass::Trouble(5);
-        }
-        if file.len() - at < 5 {
-            return Pass::Trouble(1);
-        }
-        let duration = record::number4(file, at + 1);
-        let trouble = record::step_trouble(duration);
-        if trouble != 0 {
-            return Pass::Trouble(trouble);
-        }
-        durations[m] = duration;
-        m += 1;
-        at += 5;
+    let kind = file[at];
+    if kind != 4 {
+        return misplaced(kind);
     }
-    Pass::Trouble(1)
-}
-
-// The links after `tasks` steps.
-pub fn links(
-    file: &[u8],
-    tasks: usize,
-    from: &mut [u8; 1024],
-    to: &mut [u8; 1024],
-    counts: &mut [u16; 1024],
-) -> Pass
-    requires { ⌜ (1 ≤ tasks) × (tasks ≤ 256) × (4 + 5 * tasks ≤ length (now file)) ⌝ }
-    requires { ⌜ (now from ≡ replicate 1024 0) × (now to ≡ replicate 1024 0) × (now counts ≡ replicate 1024 0) ⌝ }
-    ensures { λ r. ⌜ LinksPassed (now (file .entry)) tasks (now (from .exit)) (now (to .exit)) (now (counts .exit)) r ⌝ }
-{
-    let mut l: usize = 0;
-    let mut at: usize = 4 + 5 * tasks;
-    let mut least: u32 = 0;
-    while at < file.len() {
-        if file[at] != 3 {
-            return Pass::Count(l);
-        }
-        if l == 1024 {
-            return Pass::Trouble(5);
-        }
-        if file.len() - at < 5 {
-            return Pass::Trouble(1);
-        }
-        let f = file[at + 1];
-        let t = file[at + 2];
-        let count = record::number2(file, at + 3);
-        let trouble = record::link_trouble(f, t, count, tasks, least);
-        if trouble != 0 {
-            return Pass::Trouble(trouble);
-        }
-        from[l] = f;
-        to[l] = t;
-        counts[l] = count;
-        least = record::key(f, t) + 1;
-        l += 1;
-        at += 5;
+    if at + 1 < file.len() {
+        return 8;
     }
-    Pass::Trouble(1)
+    0
 }

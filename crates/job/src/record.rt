@@ -1,4 +1,5 @@
 // The numbers of a record, and the trouble of one: its refusal's number among 4, 6 and 7, or 0 for none.
+use crate::Platform;
 ghost use mathlib.Core.Path.{_≡_};
 ghost use Prim.Native.Nat.{_+_, _*_, _≤_, _<_};
 ghost use lib.ListN.{length, take, drop};
@@ -21,19 +22,19 @@ pub fn number4(file: &[u8], at: usize) -> u32
     base::number4(file[at], file[at + 1], file[at + 2], file[at + 3])
 }
 
-pub fn platform_trouble(processors: u8, topology: u8, unit: u8) -> u8
-    ensures { λ r. ⌜ r ≡ platformTrouble (record { processors = processors; topology = topology; unit = unit }) ⌝ }
+pub fn platform_trouble(p: Platform) -> u8
+    ensures { λ r. ⌜ r ≡ platformTrouble p ⌝ }
 {
-    if processors < 1 {
+    if p.processors < 1 {
         return 4;
     }
-    if 16 < processors {
+    if 16 < p.processors {
         return 4;
     }
-    if 2 < topology {
+    if 2 < p.topology {
         return 4;
     }
-    if 100 < unit {
+    if 100 < p.unit {
         return 4;
     }
     0

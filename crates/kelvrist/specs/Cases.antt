@@ -7,7 +7,7 @@ use lib.ListN.{replicate}
 use Rattle.base.specs.Number.{number, bytes}
 use Rattle.base.specs.Lists.{upto, any, all, filter, greatest, keep, best}
 use Rattle.job.specs.Job.{blank}
-use Rattle.job.specs.Record.{kindOf, bodyLength, platformIn, durationIn, edgeIn, noRack, stands, full, platformInRange, durationInRange, countInRange, inRange, joins, endsRight, rises, aboveLast, inOrder, added}
+use Rattle.job.specs.Record.{kindOf, bodyLength, platformIn, durationIn, edgeIn, noRack, stands, full, platformInRange, durationInRange, countInRange, inRange, joins, rises, aboveLast, misfit, added}
 use Rattle.job.specs.Read.{after, judged, records, readJob}
 use Rattle.etf.specs.Instance.{duration, into, messageTime}
 use Rattle.etf.specs.Schedule.{placed, placementOf, messageTimeTo, arrival, end, scheduleOf}
@@ -47,7 +47,7 @@ pub cases-hold :
     × (checkBytesCall (9 ∷ []) [] ≡ 2)
 unfolding checkOf planBytesCall planBytesFor planBytes taskBytes bytes startOf processorOf checkBytesCall checkBytesFor numberOf
     processorIn startIn number readJob blank records judged after kindOf bodyLength stands noRack full inRange platformInRange
-    durationInRange countInRange endsRight joins inOrder aboveLast rises added platformIn durationIn edgeIn flatMap upto any all filter
+    durationInRange countInRange misfit joins aboveLast rises added platformIn durationIn edgeIn flatMap upto any all filter
     greatest keep best duration into messageTime placed placementOf messageTimeTo arrival end scheduleOf hops cost atMost move settle
     nextMoment free finished ready pair pairs choice complete round run planned firstAnswer misplaced overlap early check instance orElse
     bind

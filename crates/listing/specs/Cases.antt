@@ -5,7 +5,7 @@ use mathlib.Core.List.{[], _∷_, flatMap}
 use Rattle.base.specs.Number.{number}
 use Rattle.base.specs.Lists.{upto, any, all, filter, greatest, keep, best}
 use Rattle.job.specs.Job.{blank}
-use Rattle.job.specs.Record.{kindOf, bodyLength, platformIn, durationIn, edgeIn, noRack, stands, full, platformInRange, durationInRange, countInRange, inRange, joins, endsRight, rises, aboveLast, inOrder, added}
+use Rattle.job.specs.Record.{kindOf, bodyLength, platformIn, durationIn, edgeIn, noRack, stands, full, platformInRange, durationInRange, countInRange, inRange, joins, rises, aboveLast, misfit, added}
 use Rattle.job.specs.Read.{after, judged, records, readJob}
 use Rattle.etf.specs.Instance.{duration, into, messageTime}
 use Rattle.etf.specs.Schedule.{placed, placementOf, messageTimeTo, arrival, end}
@@ -24,7 +24,7 @@ pub printed : (listing file-a ≡ text "plan 2 3 2\n0 0 0 4\n1 1 0 3\n2 1 6 8\ne
     × (listing (1 ∷ 2 ∷ 0 ∷ []) ≡ text "refused 1\n")
 unfolding listing listingFor refusalLine planListing figures taskLines taskLine header line field decimal digits text startOf
     processorOf number readJob blank records judged after kindOf bodyLength stands noRack full inRange platformInRange
-    durationInRange countInRange endsRight joins inOrder aboveLast rises added platformIn durationIn edgeIn flatMap upto any all
+    durationInRange countInRange misfit joins aboveLast rises added platformIn durationIn edgeIn flatMap upto any all
     filter greatest keep best duration into messageTime placed placementOf messageTimeTo arrival end hops cost atMost move settle
     nextMoment free finished ready pair pairs choice complete round run planned running busy idle someIdle latestIdleTick
     lowestIdle later latestInto back walk lastTask cover greatestCost dearestTo dearest instance orElse bind

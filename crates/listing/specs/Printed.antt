@@ -1,10 +1,11 @@
--- What holds of every printed text: its numbers tell themselves, and the file's first 6,406 bytes settle it.
+-- What holds of every printed text: its numbers tell themselves, and one byte more than the greatest file has settles it.
 use mathlib.Core.Path.{_≡_, ap}
 use mathlib.Core.List.{List}
 use Prim.Native.Nat.{ℕ, _^_, _≤_, _<_}
 use native.Mathlib.Omega.{arith}
 use lib.ListN.{length, take, drop, length-append}
 use Rattle.job.specs.Read.{refused, readJob}
+use Rattle.job.specs.Write.{greatestLength}
 use Rattle.job.specs.RoundTrip.{settled}
 use Rattle.listing.specs.Listing.{decimal, refusalLine, listingFor, listing, ListingCall, listed, putFirst, listingCall}
 use Rattle.listing.specs.Laws.Told.{told, told-digits}
@@ -14,10 +15,10 @@ pub decimal-tells : (x : ℕ) → x < 10 ^ 10 → told 0 (decimal x) ≡ x
 unfolding decimal
 decimal-tells x h = told-digits 10 x h
 
--- a longer input is answered by its first 6,406 bytes
-pub first-bytes : (file : List ℕ) → listing (take 6406 file) ≡ listing file
+-- an input is answered by its first n bytes, where no accepted file has as many
+pub first-bytes : (file : List ℕ) (n : ℕ) → greatestLength < n → listing (take n file) ≡ listing file
 unfolding listing
-first-bytes file = ap listingFor (settled file)
+first-bytes file n h = ap listingFor (settled file n h)
 
 -- a refused file's text is the line of its number
 pub refused-text : (file out : List ℕ) (k : ℕ) → readJob file ≡ refused k → putFirst (refusalLine k) out ≡ listingCall file out

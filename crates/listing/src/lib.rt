@@ -146,7 +146,7 @@ pub fn write(file: &[u8], out: &mut [u8; 12288]) -> usize
     let mut scratch = [0u32; 4096];
     let covered = schedule::cover(file, &mut starts, &mut processors, &mut scratch);
     let first = header(out, r.platform.processors, tasks, edges);
-    let end = last_finish(tasks, &r.durations, &starts);
-    let last = lines(out, first, tasks, &r.durations, &starts, &processors);
+    let end = last_finish(tasks, &r.arrays.durations, &starts);
+    let last = lines(out, first, tasks, &r.arrays.durations, &starts, &processors);
     figures(out, last, end, cover_in(covered), dearest_in(covered))
 }

@@ -8,7 +8,7 @@ use Rattle.base.specs.Number.{number}
 use Rattle.base.specs.Lists.{upto, any, all, filter, greatest, keep, best}
 use Rattle.base.specs.Slices.{filled}
 use Rattle.job.specs.Job.{Job, blank}
-use Rattle.job.specs.Record.{kindOf, bodyLength, platformIn, durationIn, edgeIn, noRack, stands, full, platformInRange, durationInRange, countInRange, inRange, joins, endsRight, rises, aboveLast, inOrder, added}
+use Rattle.job.specs.Record.{kindOf, bodyLength, platformIn, durationIn, edgeIn, noRack, stands, full, platformInRange, durationInRange, countInRange, inRange, joins, rises, aboveLast, misfit, added}
 use Rattle.job.specs.Read.{after, judged, records, readJob}
 use Rattle.etf.specs.Instance.{duration, into, messageTime}
 use Rattle.etf.specs.Schedule.{placed, placementOf, messageTimeTo, arrival, end, scheduleOf}
@@ -80,7 +80,7 @@ pub cases-hold :
     × (checkCall apart (0 ∷ 5 ∷ 0 ∷ []) (0 ∷ 0 ∷ 99 ∷ []) ≡ Yes)
 unfolding planCall planFor planAccepted coverCall coverFor coverAccepted filled scratchAt checkCall checkFor checkedAs checkOf startOf
     processorOf number readJob blank records judged after kindOf bodyLength stands noRack full inRange platformInRange durationInRange
-    countInRange endsRight joins inOrder aboveLast rises added platformIn durationIn edgeIn flatMap upto any all filter greatest keep best
+    countInRange misfit joins aboveLast rises added platformIn durationIn edgeIn flatMap upto any all filter greatest keep best
     duration into messageTime placed placementOf messageTimeTo arrival end scheduleOf hops cost atMost move settle nextMoment free
     finished ready pair pairs choice complete round run planned running busy idle someIdle latestIdleTick lowestIdle later latestInto back
     walk lastTask cover greatestCost dearestTo dearest firstAnswer misplaced overlap early check instance orElse bind

@@ -12,7 +12,7 @@ use Rattle.base.specs.Rows.{sum, one-if, most}
 use Rattle.base.specs.Slices.{filled}
 use Rattle.job.specs.declared.Platform.{Platform}
 use Rattle.job.specs.Accepted.{Accepted}
-use Rattle.job.specs.Write.{heldJob}
+use Rattle.job.specs.Write.{heldJob, gathered}
 use Rattle.etf.specs.Instance.{Instance}
 use Rattle.etf.specs.Schedule.{end}
 use Rattle.etf.specs.Topology.{cost, square}
@@ -161,7 +161,7 @@ pub record Placed (pair : Pair) (finish first last low m n : ℕ)
 
 -- what planner and checker are handed: the arrays of an accepted job, and its costs
 pub record InArrays (platform : Platform) (m l : ℕ) (durations from to counts : List ℕ) (costs : List (List ℕ)) : Type 0 where
-  pub accepted : Accepted (heldJob platform m l durations from to counts)
+  pub accepted : Accepted (heldJob platform m l (gathered durations from to counts))
   pub durations-size : length durations ≡ 256
   pub from-size : length from ≡ 1024
   pub to-size : length to ≡ 1024

@@ -5,7 +5,7 @@ ghost use mathlib.Core.List.{[]};
 ghost use Prim.Native.Nat.{ℕ, _≤_, _<_};
 ghost use lib.ListN.{length, getD};
 ghost use Rattle.base.specs.Rows.{most as mostOf};
-ghost use Rattle.job.specs.Write.{heldJob};
+ghost use Rattle.job.specs.Write.{heldJob, gathered};
 ghost use Rattle.etf.specs.OfJob.{instance};
 ghost use Rattle.etf.specs.Dearest.{dearest as dearestOf};
 ghost use Rattle.schedule.specs.Pass.{InArrays};
@@ -83,7 +83,7 @@ pub fn dearest<'a>(
     costs: [[u32; 16]; 16],
 ) -> u32
     requires { ⌜ InArrays platform tasks edges (now durations) (now from) (now to) (now counts) costs ⌝ }
-    ensures { λ r. ⌜ r ≡ dearestOf (instance (heldJob platform tasks edges (now (durations .entry)) (now (from .entry)) (now (to .entry)) (now (counts .entry)))) ⌝ }
+    ensures { λ r. ⌜ r ≡ dearestOf (instance (heldJob platform tasks edges (gathered (now (durations .entry)) (now (from .entry)) (now (to .entry)) (now (counts .entry))))) ⌝ }
 {
     let cost = greatest_cost(costs, base::index(platform.processors));
     sum(edges, from, to, counts, cost)

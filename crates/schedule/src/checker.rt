@@ -4,7 +4,7 @@ ghost use mathlib.Core.Path.{_≡_};
 ghost use mathlib.Core.List.{[]};
 ghost use Prim.Native.Nat.{ℕ, _≤_, _<_};
 ghost use lib.ListN.{length, getD};
-ghost use Rattle.job.specs.Write.{heldJob};
+ghost use Rattle.job.specs.Write.{heldJob, gathered};
 ghost use Rattle.etf.specs.OfJob.{instance};
 ghost use Rattle.schedule.specs.Check.{checkOf, numberOf};
 ghost use Rattle.schedule.specs.Pass.{InArrays, Judgeable, First, someIn, placeTroubles, overlapsLater, earlyAt};
@@ -149,7 +149,7 @@ pub fn trouble<'a>(
 ) -> u8
     requires { ⌜ InArrays platform tasks edges (now durations) (now from) (now to) (now counts) costs ⌝ }
     requires { ⌜ (tasks ≤ length (now starts)) × (tasks ≤ length (now processors)) ⌝ }
-    ensures { λ r. ⌜ r ≡ numberOf (checkOf (instance (heldJob platform tasks edges (now (durations .entry)) (now (from .entry)) (now (to .entry)) (now (counts .entry)))) (λ T. getD (now (processors .entry)) T 0) (λ T. getD (now (starts .entry)) T 0)) ⌝ }
+    ensures { λ r. ⌜ r ≡ numberOf (checkOf (instance (heldJob platform tasks edges (gathered (now (durations .entry)) (now (from .entry)) (now (to .entry)) (now (counts .entry))))) (λ T. getD (now (processors .entry)) T 0) (λ T. getD (now (starts .entry)) T 0)) ⌝ }
 {
     let number = misplaced(tasks, base::index(platform.processors), starts, processors);
     if number != 0 {

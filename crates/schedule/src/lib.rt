@@ -13,7 +13,7 @@ ghost use mathlib.Core.Path.{_≡_};
 ghost use Prim.Native.Nat.{_≤_};
 ghost use lib.ListN.{length};
 ghost use Rattle.base.specs.Slices.{filled};
-ghost use Rattle.job.specs.Write.{heldJob};
+ghost use Rattle.job.specs.Write.{heldJob, gathered};
 ghost use Rattle.etf.specs.OfJob.{instance};
 ghost use Rattle.schedule.specs.Plan.{called, planCall};
 ghost use Rattle.schedule.specs.Cover.{covered, coverCall};
@@ -82,10 +82,10 @@ pub fn plan(file: &[u8], starts: &mut [u32], processors: &mut [u8], scratch: &mu
         r.platform,
         tasks,
         edges,
-        &r.durations,
-        &r.from,
-        &r.to,
-        &r.counts,
+        &r.arrays.durations,
+        &r.arrays.from,
+        &r.arrays.to,
+        &r.arrays.counts,
         costs,
         starts,
         processors,
@@ -110,7 +110,7 @@ fn measure<'a>(
 ) -> Covered
     requires { ⌜ InArrays platform tasks edges (now durations) (now from) (now to) (now counts) costs ⌝ }
     requires { ⌜ Room tasks (now starts) (now processors) (now arrivals) ⌝ }
-    ensures { λ r. ⌜ Measured (instance (heldJob platform tasks edges (now (durations .entry)) (now (from .entry)) (now (to .entry)) (now (counts .entry)))) tasks r (now (starts .entry)) (now (starts .exit)) (now (processors .entry)) (now (processors .exit)) (now (arrivals .entry)) (now (arrivals .exit)) ⌝ }
+    ensures { λ r. ⌜ Measured (instance (heldJob platform tasks edges (gathered (now (durations .entry)) (now (from .entry)) (now (to .entry)) (now (counts .entry))))) tasks r (now (starts .entry)) (now (starts .exit)) (now (processors .entry)) (now (processors .exit)) (now (arrivals .entry)) (now (arrivals .exit)) ⌝ }
 {
     planner::run(
         platform,
@@ -159,10 +159,10 @@ pub fn cover(file: &[u8], starts: &mut [u32], processors: &mut [u8], scratch: &m
         r.platform,
         tasks,
         edges,
-        &r.durations,
-        &r.from,
-        &r.to,
-        &r.counts,
+        &r.arrays.durations,
+        &r.arrays.from,
+        &r.arrays.to,
+        &r.arrays.counts,
         costs,
         starts,
         processors,
@@ -190,10 +190,10 @@ pub fn check(file: &[u8], starts: &[u32], processors: &[u8]) -> Checked
         r.platform,
         tasks,
         edges,
-        &r.durations,
-        &r.from,
-        &r.to,
-        &r.counts,
+        &r.arrays.durations,
+        &r.arrays.from,
+        &r.arrays.to,
+        &r.arrays.counts,
         costs,
         starts,
         processors,

@@ -5,7 +5,7 @@ ghost use mathlib.Core.Path.{_≡_};
 ghost use Prim.Native.Nat.{ℕ, _+_, _*_, _-_, _≤_, _<_};
 ghost use lib.ListN.{length, getD, set};
 ghost use Rattle.base.specs.Rows.{sum, one-if};
-ghost use Rattle.job.specs.Write.{heldJob};
+ghost use Rattle.job.specs.Write.{heldJob, gathered};
 ghost use Rattle.etf.specs.OfJob.{instance};
 ghost use Rattle.schedule.specs.Pass.{Surveyed, Raised, Sent, Skipped, WrittenDown, Looked, Placed, placedMark, InArrays, Room, Ran};
 ghost use Rattle.schedule.specs.Pass.{firstBest, rowOf, noPair, searched, sentTo};
@@ -306,7 +306,7 @@ pub fn run<'a>(
 ) -> u32
     requires { ⌜ InArrays platform tasks edges (now durations) (now from) (now to) (now counts) costs ⌝ }
     requires { ⌜ Room tasks (now starts) (now processors) (now arrivals) ⌝ }
-    ensures { λ r. ⌜ Ran (instance (heldJob platform tasks edges (now (durations .entry)) (now (from .entry)) (now (to .entry)) (now (counts .entry)))) tasks r (now (starts .entry)) (now (starts .exit)) (now (processors .entry)) (now (processors .exit)) (now (arrivals .entry)) (now (arrivals .exit)) ⌝ }
+    ensures { λ r. ⌜ Ran (instance (heldJob platform tasks edges (gathered (now (durations .entry)) (now (from .entry)) (now (to .entry)) (now (counts .entry))))) tasks r (now (starts .entry)) (now (starts .exit)) (now (processors .entry)) (now (processors .exit)) (now (arrivals .entry)) (now (arrivals .exit)) ⌝ }
 {
     let n = base::index(platform.processors);
     let runs = graph::runs(from, tasks, edges);

@@ -25,15 +25,15 @@ writtenNumber (NotWritten k) = k
 -- the number at a place, counted through the durations, from, to and the counts; past them the verdict's number
 unfoldable pub numberAt : Reading → ℕ → ℕ
 numberAt r place =
-    pick (ltb place 256) (getD (r .durations) place 0)
-    (pick (ltb place 1280) (getD (r .from) (place - 256) 0)
-    (pick (ltb place 2304) (getD (r .to) (place - 1280) 0)
-    (pick (ltb place 3328) (getD (r .counts) (place - 2304) 0)
+    pick (ltb place 256) (getD (r .arrays .durations) place 0)
+    (pick (ltb place 1280) (getD (r .arrays .from) (place - 256) 0)
+    (pick (ltb place 2304) (getD (r .arrays .to) (place - 1280) 0)
+    (pick (ltb place 3328) (getD (r .arrays .counts) (place - 2304) 0)
     (verdictNumber (r .verdict)))))
 
 -- the first m tasks and l edges of what was read
 unfoldable pub heldIn : Reading → ℕ → ℕ → Job
-heldIn r m l = heldJob (r .platform) m l (r .durations) (r .from) (r .to) (r .counts)
+heldIn r m l = heldJob (r .platform) m l (r .arrays)
 
 -- what the writer answers for what was read
 unfoldable pub copyAnswer : Verdict → Reading → List ℕ → Written

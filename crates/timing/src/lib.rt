@@ -3,6 +3,8 @@ use job::Verdict;
 use job::Written;
 use schedule::Covered;
 ghost use mathlib.Core.Path.{_≡_};
+ghost use Prim.Native.Nat.{_<_};
+ghost use lib.ListN.{getD};
 ghost use Rattle.job.specs.Read.{readJob, readingOf};
 ghost use Rattle.timing.specs.Timing.{writtenNumber, numberAt, Copied, refusalIn, coverReturned, coverTimed};
 
@@ -16,6 +18,30 @@ fn written_number(written: Written) -> u32
     }
 }
 
+// The duration at a place.
+fn duration(durations: &[u32; 256], place: usize) -> u32
+    requires { ⌜ place < 256 ⌝ }
+    ensures { λ r. ⌜ r ≡ getD (now (durations .entry)) place 0 ⌝ }
+{
+    durations[place]
+}
+
+// The end of an edge at a place.
+fn task(tasks: &[u8; 1024], place: usize) -> u32
+    requires { ⌜ place < 1024 ⌝ }
+    ensures { λ r. ⌜ r ≡ getD (now (tasks .entry)) place 0 ⌝ }
+{
+    base::wide8(tasks[place])
+}
+
+// The message count at a place.
+fn count(counts: &[u16; 1024], place: usize) -> u32
+    requires { ⌜ place < 1024 ⌝ }
+    ensures { λ r. ⌜ r ≡ getD (now (counts .entry)) place 0 ⌝ }
+{
+    base::wide16(counts[place])
+}
+
 // Reads a file, and returns one number of what was read: which one is not known before, so that every store is due.
 #[no_mangle]
 pub extern "C" fn timing_read(file: &[u8], place: usize) -> u32
@@ -23,16 +49,16 @@ pub extern "C" fn timing_read(file: &[u8], place: usize) -> u32
 {
     let r = job::read(file);
     if place < 256 {
-        return r.durations[place];
+        return duration(&r.arrays.durations, place);
     }
     if place < 1280 {
-        return base::wide8(r.from[place - 256]);
+        return task(&r.arrays.from, place - 256);
     }
     if place < 2304 {
-        return base::wide8(r.to[place - 1280]);
+        return task(&r.arrays.to, place - 1280);
     }
     if place < 3328 {
-        return base::wide16(r.counts[place - 2304]);
+        return count(&r.arrays.counts, place - 2304);
     }
     let verdict = r.verdict;
     base::wide8(job::number(verdict))
@@ -48,16 +74,7 @@ pub extern "C" fn timing_copy(file: &[u8], out: &mut [u8]) -> u32
     let Verdict::Counts { tasks, edges } = verdict else {
         return base::wide8(job::number(verdict));
     };
-    let written = job::write(
-        r.platform,
-        tasks,
-        edges,
-        &r.durations,
-        &r.from,
-        &r.to,
-        &r.counts,
-        out,
-    );
+    let written = job::write(r.platform, tasks, edges, r.arrays, out);
     written_number(written)
 }
 

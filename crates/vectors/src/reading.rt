@@ -1,6 +1,7 @@
 // A case of the reader: what it finds, that every spare place is 0, and that the writer gives the same bytes again.
 use crate::number;
 use crate::show;
+use job::Arrays;
 use job::Platform;
 use job::Verdict;
 use job::Written;
@@ -121,27 +122,9 @@ fn is_same(file: &[u8], out: &[u8], written: Written) -> bool {
 }
 
 // Writes the job again, and says whether that gives the same bytes.
-fn show_again<'a>(
-    file: &[u8],
-    platform: Platform,
-    tasks: usize,
-    edges: usize,
-    durations: &'a [u32; 256],
-    from: &'a [u8; 1024],
-    to: &'a [u8; 1024],
-    counts: &'a [u16; 1024],
-) {
+fn show_again(file: &[u8], platform: Platform, tasks: usize, edges: usize, arrays: Arrays) {
     let mut out = [238u8; 8192];
-    let written = job::write(
-        platform,
-        tasks,
-        edges,
-        durations,
-        from,
-        to,
-        counts,
-        &mut out,
-    );
+    let written = job::write(platform, tasks, edges, arrays, &mut out);
     if is_same(file, &out, written) {
         show::text(b" same\n");
     } else {
@@ -156,21 +139,26 @@ pub fn case(file: &[u8]) {
     match verdict {
         Verdict::Counts { tasks, edges } => {
             show_counts(tasks, edges, r.platform);
-            show_job(tasks, edges, &r.durations, &r.from, &r.to, &r.counts);
-            show_again(
-                file,
-                r.platform,
+            show_job(
                 tasks,
                 edges,
-                &r.durations,
-                &r.from,
-                &r.to,
-                &r.counts,
+                &r.arrays.durations,
+                &r.arrays.from,
+                &r.arrays.to,
+                &r.arrays.counts,
             );
+            show_again(file, r.platform, tasks, edges, r.arrays);
         }
         Verdict::Refused(number) => {
             show_refusal(number, r.platform);
-            show_job(0, 0, &r.durations, &r.from, &r.to, &r.counts);
+            show_job(
+                0,
+                0,
+                &r.arrays.durations,
+                &r.arrays.from,
+                &r.arrays.to,
+                &r.arrays.counts,
+            );
             show::text(b"\n");
         }
     }

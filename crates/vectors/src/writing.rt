@@ -9,6 +9,7 @@
 // Places of the arrays past those that are given hold the fill.
 use crate::number;
 use crate::show;
+use job::Arrays;
 use job::Platform;
 use job::Written;
 ghost use Prim.Native.Nat.{_+_, _*_, _≤_};
@@ -63,15 +64,7 @@ fn show_written(written: Written) {
 }
 
 // Writes the job to the first `room` bytes of the output.
-fn write<'a>(
-    body: &[u8],
-    room: usize,
-    durations: &'a [u32; 256],
-    from: &'a [u8; 1024],
-    to: &'a [u8; 1024],
-    counts: &'a [u16; 1024],
-    out: &mut [u8],
-)
+fn write(body: &[u8], room: usize, arrays: Arrays, out: &mut [u8])
     requires { ⌜ (32 ≤ length (now body)) × (room ≤ length (now out)) ⌝ }
 {
     let platform = Platform {
@@ -81,16 +74,7 @@ fn write<'a>(
     };
     let tasks = number::eight(body, 0) as usize;
     let edges = number::eight(body, 8) as usize;
-    let written = job::write(
-        platform,
-        tasks,
-        edges,
-        durations,
-        from,
-        to,
-        counts,
-        &mut out[0..room],
-    );
+    let written = job::write(platform, tasks, edges, arrays, &mut out[0..room]);
     show_written(written);
     show::text(b" [");
     show::hex(show::first(out, room));
@@ -120,5 +104,11 @@ pub fn case(body: &[u8]) {
     put_durations(body, given, &mut durations);
     put_edges(body, 32 + 4 * given, &mut from, &mut to, &mut counts);
     let mut out = [body[19]; 8192];
-    write(body, room, &durations, &from, &to, &counts, &mut out);
+    let arrays = Arrays {
+        durations,
+        from,
+        to,
+        counts,
+    };
+    write(body, room, arrays, &mut out);
 }

@@ -3,6 +3,7 @@ use mathlib.Core.Path.{_≡_, refl, ap, sym, _∙_}
 use mathlib.Core.List.{List, [], _∷_, _++_, flatMap, append-nil, append-assoc}
 use Prim.Native.Nat.{ℕ, suc, _+_, _*_, _≤_}
 use native.Mathlib.Nat.{add-zero, zero-add}
+use native.Mathlib.Numerals.{unary-clauses}
 use native.Mathlib.Omega.{arith}
 use lib.ListN.{length, drop, set, length-append}
 use lib.Seq.{sets, sets-eq}
@@ -25,17 +26,19 @@ module _ {A : Type 0} (g : A → List ℕ) where
   flat-append [] b = refl
   flat-append (x ∷ a) b = rw (flat-append a b, append-assoc (g x) (flatMap g a) (flatMap g b))
 
-  module _ (five : (a : A) → length (g a) ≡ 5) where
-    pub flat-size : (xs : List A) → length (flatMap g xs) ≡ 5 * length xs
+  -- things of k bytes each
+  module _ (k : ℕ) (each : (a : A) → length (g a) ≡ k) where
+    pub flat-size : (xs : List A) → length (flatMap g xs) ≡ k * length xs
     unfolding flatMap
-    flat-size [] = refl
-    flat-size (x ∷ xs) = rw (length-append (g x) (flatMap g xs), five x, flat-size xs) (omega arith)
+    flat-size [] = simp unary-clauses
+    flat-size (x ∷ xs) = rw (length-append (g x) (flatMap g xs), each x, flat-size xs) (simp unary-clauses (omega arith))
 
-    -- one record more
-    pub store-more : (f : ℕ → A) (l l′ l″ : List ℕ) (at i : ℕ) → l′ ≡ sets l at (flatMap g (values f 0 i)) → l″ ≡ sets l′ (at + 5 * i) (g (f i)) →
-        l″ ≡ sets l at (flatMap g (values f 0 (i + 1)))
+    -- one thing more
+    pub store-more : (f : ℕ → A) (l l′ l″ : List ℕ) (at i : ℕ) → l′ ≡ sets l at (flatMap g (values f 0 i)) →
+        l″ ≡ sets l′ (at + k * i) (g (f i)) → l″ ≡ sets l at (flatMap g (values f 0 (i + 1)))
     unfolding flatMap
     store-more f l l′ l″ at i e h =
-        let s : length (flatMap g (values f 0 i)) ≡ 5 * i = flat-size (values f 0 i) ∙ ap (λ (n : ℕ). 5 * n) (length-values f 0 i) in
+        let s : length (flatMap g (values f 0 i)) ≡ k * i = flat-size (values f 0 i) ∙ ap (λ (n : ℕ). k * n) (length-values f 0 i) in
         h ∙ rw (e, ← s, ← sets-append l at (flatMap g (values f 0 i)) (g (f i)))
-        (ap (sets l at) (sym (ap (flatMap g) (values-more f i) ∙ flat-append (values f 0 i) (f i ∷ []) ∙ ap (λ (b : List ℕ). flatMap g (values f 0 i) ++ b) (append-nil (g (f i))))))
+        (ap (sets l at) (sym (ap (flatMap g) (values-more f i) ∙ flat-append (values f 0 i) (f i ∷ [])
+        ∙ ap (λ (b : List ℕ). flatMap g (values f 0 i) ++ b) (append-nil (g (f i))))))

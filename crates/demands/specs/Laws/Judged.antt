@@ -11,13 +11,14 @@ use lib.Dec.{ltb}
 use lib.ListN.{length, getD}
 use Rattle.base.specs.Choice.{pick}
 use Rattle.base.specs.Laws.Tests.{impossible, le-or-lt}
+use Rattle.job.specs.declared.Arrays.{Arrays}
 use Rattle.job.specs.declared.Platform.{Platform}
 use Rattle.job.specs.declared.Verdict.the-variants.{Counts, Refused as NotRead}
 use Rattle.job.specs.declared.Written.{Written}
 use Rattle.job.specs.declared.Written.the-variants.{Length, Refused as NotWritten}
 use Rattle.job.specs.Job.{Job}
 use Rattle.job.specs.Read.{Answer, accepted, refused, readJob, readingOf}
-use Rattle.job.specs.Write.{fileOf, fileLength, heldJob, Held, roomFor, writeAnswer, writeOut}
+use Rattle.job.specs.Write.{fileOf, heldJob, Held, roomFor, tooMany, writeAnswer, writeOut}
 use Rattle.job.specs.Refusal.{read-numbers, write-numbers}
 use Rattle.etf.specs.Instance.{Instance, tasks}
 use Rattle.etf.specs.Schedule.{Placement, scheduleOf}
@@ -150,28 +151,28 @@ module _ (file plan : List ℕ) where
 abbrev Writes : ℕ → Written → Type 0
 Writes n r = (r ≡ Length n) ⊎ ((k : ℕ) × (r ≡ NotWritten k))
 
-writes : (m l : ℕ) (j : Job) (out : List ℕ) → Writes (fileLength m l) (writeAnswer m l j out)
+writes : (m l : ℕ) (j : Job) (out : List ℕ) → Writes (length (fileOf j)) (writeAnswer m l j out)
 unfolding writeAnswer roomFor
-writes m l j out = go (ltb 256 m || ltb 1024 l) (readJob (fileOf j))
+writes m l j out = go (tooMany m l) (readJob (fileOf j))
   where
     room : (n : ℕ) (b : Bool) → Writes n (pick b (NotWritten 9) (Length n))
     room n true = inr (9, refl)
     room n false = inl refl
 
-    go : (b : Bool) (a : Answer) → Writes (fileLength m l) (pick b (NotWritten 5) (roomFor (fileLength m l) out a))
+    go : (b : Bool) (a : Answer) → Writes (length (fileOf j)) (pick b (NotWritten 5) (roomFor (fileOf j) out a))
     go true a = inr (5, refl)
-    go false (accepted i) = room (fileLength m l) (ltb (length out) (fileLength m l))
+    go false (accepted i) = room (length (fileOf j)) (ltb (length out) (length (fileOf j)))
     go false (refused k) = inr (k, refl)
 
 -- of a job held as numbers, with the numbers of its refusals
-module _ (p : Platform) (m l : ℕ) (durations from to counts out : List ℕ) (h : Held durations to counts) where
+module _ (p : Platform) (m l : ℕ) (a : Arrays) (out : List ℕ) (h : Held a) where
   abbrev answer : Written
-  answer = writeAnswer m l (heldJob p m l durations from to counts) out
+  answer = writeAnswer m l (heldJob p m l a) out
 
-  pub write-answers : (answer ≡ Length (fileLength m l)) ⊎ ((k : ℕ) × (answer ≡ NotWritten k) × (((3 ≤ k) × (k ≤ 7)) ⊎ (k ≡ 9)))
+  pub write-answers : (answer ≡ Length (length (fileOf (heldJob p m l a)))) ⊎ ((k : ℕ) × (answer ≡ NotWritten k) × (((3 ≤ k) × (k ≤ 7)) ⊎ (k ≡ 9)))
   write-answers =
-      ⊎-elim inl (λ r. inr (r .0, r .1, write-numbers p m l durations from to counts out (r .0) h (r .1)))
-      (writes m l (heldJob p m l durations from to counts) out)
+      ⊎-elim inl (λ r. inr (r .0, r .1, write-numbers p m l a out (r .0) h (r .1)))
+      (writes m l (heldJob p m l a) out)
 
 -- a refusal leaves the output as it was
 pub write-leaves : (r : Written) (j : Job) (out : List ℕ) (k : ℕ) → r ≡ NotWritten k → writeOut r j out ≡ out

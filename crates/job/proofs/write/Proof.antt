@@ -1,111 +1,120 @@
--- `write`: a refusal is the count's, the reader's to the job's file, or the room's; what is stored is the file.
-use mathlib.Core.Path.{_≡_, sym, _∙_}
-use mathlib.Core.List.{List, _++_}
+-- `write`: a refusal is the count's, the reader's to the job's file, or the room's; what is put is the file.
+use mathlib.Core.Path.{_≡_, refl, ap, sym, _∙_}
+use mathlib.Core.List.{List}
 use Prim.Native.Nat.{ℕ, _≤_, _<_}
+use native.Mathlib.Omega.{arith}
 use borrow.Author.Needs.{needs}
 use borrow.Author.Tests.{lt-ltb, le-ltb}
-use lib.ListN.{length, getD, drop}
-use lib.Seq.{sets}
+use lib.ListN.{length, getD}
+use Rattle.base.specs.Slices.{Put}
 use Rattle.base.specs.Laws.Values.{length-values}
 use Rattle.base.specs.Laws.Stored.{sets-front}
+use Rattle.job.specs.declared.Arrays.{Arrays}
 use Rattle.job.specs.declared.Platform.{Platform}
 use Rattle.job.specs.declared.Written.the-variants.{Length, Refused}
 use Rattle.job.specs.Job.{Job}
 use Rattle.job.specs.Read.{Answer, accepted, refused, readJob}
-use Rattle.job.specs.Write.{fileOf, fileLength, edgeHeld, heldJob, roomFor, writeAnswer, writeOut, WrittenAs}
-use Rattle.job.specs.Laws.Written.{file-size}
+use Rattle.job.specs.Write.{fileOf, edgeHeld, heldJob, roomFor, tooMany, writeAnswer, writeOut, WrittenAs}
+use Rattle.job.specs.Pass.{Met}
+use Rattle.job.specs.Laws.Judged.{passes, stops}
 use Rattle.job.proofs.write.Statement.{statement}
 use Rattle.job.proofs.write.Tie as tie
 
--- what a call returns and leaves, where its answer is known
-refuse : (m l n : ℕ) (j : Job) (out : List ℕ) → writeAnswer m l j out ≡ Refused n → WrittenAs (Refused n) out m l j out
-unfolding writeOut
-refuse m l n j out e = record { answer = sym e; output = rw e }
+-- a length that every job with so many tasks and edges has
+module _ (p : Platform) (m l : ℕ) (a : Arrays) (n : ℕ)
+    (every : (j : Job) → length (j .tasks) ≡ m → length (j .edges) ≡ l → n ≡ length (fileOf j)) where
+  held-size : n ≡ length (fileOf (heldJob p m l a))
+  unfolding heldJob
+  held-size =
+      every (heldJob p m l a) (length-values (λ t. getD (a .durations) t 0) 0 m)
+      (length-values (edgeHeld (a .from) (a .to) (a .counts)) 0 l)
 
-take-it : (m l n : ℕ) (j : Job) (out out′ : List ℕ) → writeAnswer m l j out ≡ Length n → out′ ≡ fileOf j ++ drop n out → WrittenAs (Length n) out′ m l j out
-unfolding writeOut
-take-it m l n j out out′ e h = record { answer = sym e; output = rw e h }
+  held-room : {k : ℕ} → n ≤ k → length (fileOf (heldJob p m l a)) ≤ k
+  held-room h = omega (arith, held-size)
 
 module _ (m l : ℕ) (j : Job) (out : List ℕ) where
-  many-tasks : 256 < m → writeAnswer m l j out ≡ Refused 5
-  unfolding writeAnswer
-  many-tasks h = simp (lt-ltb _ _ h)
+  refuse : (n : ℕ) → writeAnswer m l j out ≡ Refused n → WrittenAs (Refused n) out m l j out
+  unfolding writeOut
+  refuse n e = record { answer = sym e; output = rw e }
 
-  many-edges : m ≤ 256 → 1024 < l → writeAnswer m l j out ≡ Refused 5
-  unfolding writeAnswer
-  many-edges g h = simp (le-ltb _ _ g, lt-ltb _ _ h)
+  many-tasks : 256 < m → WrittenAs (Refused 5) out m l j out
+  unfolding writeAnswer tooMany
+  many-tasks h = refuse 5 (simp (lt-ltb _ _ h))
 
-  module _ (few : m ≤ 256) (few′ : l ≤ 1024) where
-    by-reader : (a : Answer) → readJob (fileOf j) ≡ a → writeAnswer m l j out ≡ roomFor (fileLength m l) out a
-    unfolding writeAnswer
+  many-edges : m ≤ 256 → 1024 < l → WrittenAs (Refused 5) out m l j out
+  unfolding writeAnswer tooMany
+  many-edges g h = refuse 5 (simp (le-ltb _ _ g, lt-ltb _ _ h))
+
+  module _ (few : m ≤ 256) (few′ : l ≤ 1024) (n : ℕ) (met : Met j n) where
+    by-reader : (a : Answer) → readJob (fileOf j) ≡ a → writeAnswer m l j out ≡ roomFor (fileOf j) out a
+    unfolding writeAnswer tooMany
     by-reader a e = simp (le-ltb _ _ few, le-ltb _ _ few′, e)
 
-    read-bad : (n : ℕ) → readJob (fileOf j) ≡ refused n → WrittenAs (Refused n) out m l j out
+    bad : (n ≡ 0 → ⊥) → WrittenAs (Refused n) out m l j out
     unfolding roomFor
-    read-bad n e = refuse m l n j out (by-reader (refused n) e)
+    bad z = refuse n (by-reader (refused n) (met ∙ stops n (accepted j) z))
 
-    no-room : (i : Job) → readJob (fileOf j) ≡ accepted i → length out < fileLength m l → WrittenAs (Refused 9) out m l j out
-    unfolding roomFor
-    no-room i e h = refuse m l 9 j out (by-reader (accepted i) e ∙ simp (lt-ltb _ _ h))
+    module _ (z : n ≡ 0) (k : ℕ) (size : k ≡ length (fileOf j)) where
+      no-room : length out < k → WrittenAs (Refused 9) out m l j out
+      unfolding roomFor
+      no-room h =
+          let h′ : length out < length (fileOf j) = omega arith in
+          refuse 9 (by-reader (accepted j) (met ∙ passes n (accepted j) z) ∙ simp (lt-ltb _ _ h′))
 
-    has-room : (i : Job) → readJob (fileOf j) ≡ accepted i → fileLength m l ≤ length out → writeAnswer m l j out ≡ Length (fileLength m l)
-    unfolding roomFor
-    has-room i e h = by-reader (accepted i) e ∙ simp (le-ltb _ _ h)
-
-held-size : (p : Platform) (m l : ℕ) (durations from to counts : List ℕ) → length (fileOf (heldJob p m l durations from to counts)) ≡ fileLength m l
-unfolding heldJob
-held-size p m l durations from to counts =
-    file-size (heldJob p m l durations from to counts) ∙ rw (length-values (λ t. getD durations t 0) 0 m, length-values (edgeHeld from to counts) 0 l)
-
-wrote : (p : Platform) (m l : ℕ) (durations from to counts out out′ : List ℕ) →
-    writeAnswer m l (heldJob p m l durations from to counts) out ≡ Length (fileLength m l) → out′ ≡ sets out 0 (fileOf (heldJob p m l durations from to counts)) →
-    fileLength m l ≤ length out → WrittenAs (Length (fileLength m l)) out′ m l (heldJob p m l durations from to counts) out
-wrote p m l durations from to counts out out′ e s h =
-    take-it m l (fileLength m l) _ out out′ e (s ∙ sets-front out (fileOf (heldJob p m l durations from to counts)) (fileLength m l) (held-size p m l durations from to counts) h)
+      wrote : k ≤ length out → (out′ : List ℕ) (r : ℕ) → Put out out′ 0 r (fileOf j) → WrittenAs (Length r) out′ m l j out
+      unfolding roomFor writeOut
+      wrote h out′ r q =
+          let h′ : length (fileOf j) ≤ length out = omega arith in
+          let e : writeAnswer m l j out ≡ Length (length (fileOf j)) =
+          by-reader (accepted j) (met ∙ passes n (accepted j) z) ∙ simp (le-ltb _ _ h′) in
+          let s : r ≡ length (fileOf j) = omega (arith, q .past) in
+          record { answer = ap Length s ∙ sym e; output = rw e (q .stored ∙ sets-front out (fileOf j) (length (fileOf j)) refl h′) }
 
 returns : tie.Need-returns
-returns c = refuse _ _ _ _ _ (many-tasks _ _ _ _ (c .if1 .taken))
+returns c = many-tasks _ _ _ _ (c .if1 .taken)
 
 returns-2 : tie.Need-returns-2
-returns-2 c = refuse _ _ _ _ _ (many-edges _ _ _ _ (c .before .if1 .left) (c .if2 .taken))
+returns-2 c = many-edges _ _ _ _ (c .before .if1 .left) (c .if2 .taken)
 
 job-trouble-requires : tie.Need-job-trouble-requires
 job-trouble-requires c κs = search needs
 
 returns-3 : tie.Need-returns-3
-returns-3 c = read-bad _ _ _ _ (c .before .before .before .if1 .left) (c .before .before .if2 .left) _ (c .before .job-trouble .ensures .refuses (c .if3 .taken))
+returns-3 c =
+    let at-job-trouble = c .before in
+    let at-if2 = at-job-trouble .before .before .before .before .before .before in
+    bad _ _ _ _ (at-if2 .before .if1 .left) (at-if2 .if2 .left) _ (at-job-trouble .job-trouble .ensures) (c .if3 .taken)
 
-add-length : tie.Need-add-length
-add-length c = search needs
-
-mul-length : tie.Need-mul-length
-mul-length c = search needs
-
-add-length-2 : tie.Need-add-length-2
-add-length-2 c = search needs
+file-length-requires : tie.Need-file-length-requires
+file-length-requires c κs = search needs
 
 returns-4 : tie.Need-returns-4
-unfolding fileLength
 returns-4 c =
-    let at-if2 = c .before .before .before in
-    let at-if1 = at-if2 .before in
-    no-room _ _ _ _ (at-if1 .if1 .left) (at-if2 .if2 .left) _ (c .before .before .job-trouble .ensures .accepts (c .before .if3 .left)) (c .if4 .taken)
+    let at-if3 = c .before .before in
+    let at-job-trouble = at-if3 .before in
+    let at-if2 = at-job-trouble .before .before .before .before .before .before in
+    no-room _ _ _ _ (at-if2 .before .if1 .left) (at-if2 .if2 .left) _ (at-job-trouble .job-trouble .ensures) (at-if3 .if3 .left) _
+    (held-size _ _ _ _ _ (c .before .file-length .ensures)) (c .if4 .taken)
 
 put-job-requires : tie.Need-put-job-requires
-put-job-requires c κs = search needs
+put-job-requires c κs =
+    let at-if4 = c .before .before .before .before .before .before in
+    let at-if3 = at-if4 .before .before in
+    let at-if2 = at-if3 .before .before .before .before .before .before .before in
+    ((at-if2 .before .if1 .left, at-if2 .if2 .left), held-room _ _ _ _ _ (at-if4 .before .file-length .ensures) (at-if4 .if4 .left))
 
 same-length : tie.Need-same-length
 same-length c = search needs
 
 returns-5 : tie.Need-returns-5
-unfolding fileLength
 returns-5 c =
-    let at-if4 = c .before .before .before .before in
-    let at-if3 = at-if4 .before in
+    let at-put-job = c .before .before in
+    let at-if4 = at-put-job .before .before .before .before .before .before .before in
+    let at-if3 = at-if4 .before .before in
     let at-job-trouble = at-if3 .before in
-    let at-if2 = at-job-trouble .before in
-    let at-if1 = at-if2 .before in
-    wrote _ _ _ _ _ _ _ _ _ (has-room _ _ _ _ (at-if1 .if1 .left) (at-if2 .if2 .left) _ (at-job-trouble .job-trouble .ensures .accepts (at-if3 .if3 .left)) (at-if4 .if4 .left)) (c .before .before .put-job .ensures) (at-if4 .if4 .left)
+    let at-if2 = at-job-trouble .before .before .before .before .before .before in
+    wrote _ _ _ _ (at-if2 .before .if1 .left) (at-if2 .if2 .left) _ (at-job-trouble .job-trouble .ensures) (at-if3 .if3 .left) _
+    (held-size _ _ _ _ _ (at-if4 .before .file-length .ensures)) (at-if4 .if4 .left) _ _ (at-put-job .put-job .ensures)
 
 pub write-spec : {M : Type 1} → statement M
 write-spec =
@@ -115,9 +124,7 @@ write-spec =
     returns-2
     job-trouble-requires
     returns-3
-    add-length
-    mul-length
-    add-length-2
+    file-length-requires
     returns-4
     put-job-requires
     same-length

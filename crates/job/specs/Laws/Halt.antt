@@ -2,12 +2,12 @@
 -- Then the writer's refusals, by its tests.
 use mathlib.Core.Bool.{Bool, true, false, _||_}
 use mathlib.Core.Logic.{_⊎_, inl, inr}
-use mathlib.Core.Path.{_≡_, refl, ap, _∙_}
+use mathlib.Core.Path.{_≡_, refl, ap, sym, _∙_}
 use mathlib.Core.List.{List, _∷_}
 use mathlib.Core.Option.{Option, some}
 use Prim.Native.Nat.{ℕ, suc, _+_, _≤_, _<_}
 use native.Mathlib.Omega.{arith}
-use borrow.Author.Tests.{ltb-true}
+use borrow.Author.Tests.{ltb-true, ltb-false}
 use lib.Dec.{ltb}
 use lib.ListN.{length, getD, drop, length-drop}
 use lib.Seq.{drop-cons, drop-drop}
@@ -16,28 +16,22 @@ use Rattle.base.specs.Laws.Tests.{impossible}
 use Rattle.job.specs.declared.Written.{Written}
 use Rattle.job.specs.declared.Written.the-variants.{Length, Refused}
 use Rattle.job.specs.Job.{Job, blank}
-use Rattle.job.specs.Record.{Kind, rack, step, link, end, kindOf, bodyLength, added}
-use Rattle.job.specs.Read.{Answer, accepted, refused, after, records, readJob}
-use Rattle.job.specs.Write.{roomFor}
+use Rattle.job.specs.Record.{Kind, kindOf, bodyLength, added}
+use Rattle.job.specs.Read.{Answer, accepted, refused, records, readJob}
+use Rattle.job.specs.Write.{roomFor, tooMany}
 use Rattle.job.specs.Cause.{Cause, Untroubled, Reached, start, next}
 use Rattle.job.specs.Cause.{cut, unknown, misplaced, out-of-range, too-many, bad-ends, not-above, bytes-after}
-use Rattle.job.specs.Laws.Judged.{skip, whole}
+use Rattle.job.specs.Laws.Judged.{skip, trouble, passes, whole, passed}
 use Rattle.job.specs.Laws.Turn.{Reads, no-more, halted, past, closed, reads}
 use Rattle.job.specs.Laws.Lists.{at-place}
-
--- after a record without trouble that has a body, what is left to judge stands past the body
-passed : (k : Kind) (rest : List ℕ) (j : Job) (more : ℕ → Job → Answer) → 1 ≤ bodyLength k → after k rest j more ≡ more (bodyLength k) (added j k rest)
-unfolding after bodyLength
-passed rack rest j more h = refl
-passed step rest j more h = refl
-passed link rest j more h = refl
-passed end rest j more h = let n : ⊥ = omega arith in absurd n
 
 pub onward : (b : ℕ) (rest : List ℕ) (j : Job) (k : Kind) → kindOf b ≡ some k → 1 ≤ bodyLength k → Untroubled rest j k →
     records (b ∷ rest) 0 j ≡ records (drop (bodyLength k) rest) 0 (added j k rest)
 unfolding records
-onward b rest j k e h f = rw e (whole k rest j (records rest) (f .placed) (f .room) (f .whole)
-    ∙ simp (f .ranges, f .ends, f .order) (passed k rest j (records rest) h ∙ skip rest (bodyLength k) (added j k rest)))
+onward b rest j k e h f =
+    rw e (whole k rest j (records rest) (f .placed) (f .room) (f .whole)
+    ∙ passes (trouble j k rest) _ (simp (f .ranges) (f .fits)) ∙ passed k rest j (records rest) h
+    ∙ skip rest (bodyLength k) (added j k rest))
 
 pub reached-answer : (file : List ℕ) {at : ℕ} {j : Job} → Reached file at j → readJob file ≡ records (drop at file) 0 j
 unfolding readJob
@@ -79,21 +73,39 @@ cause-number (bad-ends h) = omega arith
 cause-number (not-above h) = omega arith
 cause-number (bytes-after h) = omega arith
 
--- the writer's refusal: for a count, or else what the room and the reader's answer give
-pub count-refused : (m l n : ℕ) (w : Written) → pick (ltb 256 m || ltb 1024 l) (Refused 5) w ≡ Refused n →
-    ((n ≡ 5) × ((256 < m) ⊎ (1024 < l))) ⊎ (w ≡ Refused n)
-count-refused m l n w e = go (ltb 256 m) (ltb 1024 l) refl refl e
+-- counts that are too large, and counts that are not
+pub many-counts : (m l : ℕ) → tooMany m l ≡ true → (256 < m) ⊎ (1024 < l)
+unfolding tooMany
+many-counts m l e = go (ltb 256 m) refl e
   where
-    go : (p q : Bool) → ltb 256 m ≡ p → ltb 1024 l ≡ q → pick (p || q) (Refused 5) w ≡ Refused n → ((n ≡ 5) × ((256 < m) ⊎ (1024 < l))) ⊎ (w ≡ Refused n)
-    go true q hp hq h = inl (cc, inl (ltb-true _ _ hp))
-    go false true hp hq h = inl (cc, inr (ltb-true _ _ hq))
-    go false false hp hq h = inr h
+    go : (p : Bool) → ltb 256 m ≡ p → (p || ltb 1024 l) ≡ true → (256 < m) ⊎ (1024 < l)
+    go true hp h = inl (ltb-true _ _ hp)
+    go false hp h = inr (ltb-true _ _ h)
 
-pub room-refused : (k n : ℕ) (out : List ℕ) (a : Answer) → roomFor k out a ≡ Refused n → (a ≡ refused n) ⊎ ((n ≡ 9) × (length out < k))
-unfolding roomFor
-room-refused k n out (refused i) e = inl (cc)
-room-refused k n out (accepted j) e = go (ltb (length out) k) refl e
+pub few-counts : (m l : ℕ) → tooMany m l ≡ false → (m ≤ 256) × (l ≤ 1024)
+unfolding tooMany
+few-counts m l e = go (ltb 256 m) refl e
   where
-    go : (b : Bool) → ltb (length out) k ≡ b → pick b (Refused 9) (Length k) ≡ Refused n → (accepted j ≡ refused n) ⊎ ((n ≡ 9) × (length out < k))
+    go : (p : Bool) → ltb 256 m ≡ p → (p || ltb 1024 l) ≡ false → (m ≤ 256) × (l ≤ 1024)
+    go true hp h = impossible (sym h)
+    go false hp h = (ltb-false _ _ hp, ltb-false _ _ h)
+
+-- the writer's refusal: for a count, or else what the room and the reader's answer give
+pub count-refused : (m l n : ℕ) (w : Written) → pick (tooMany m l) (Refused 5) w ≡ Refused n →
+    ((n ≡ 5) × (tooMany m l ≡ true)) ⊎ (w ≡ Refused n)
+count-refused m l n w e = go (tooMany m l) refl e
+  where
+    go : (b : Bool) → tooMany m l ≡ b → pick b (Refused 5) w ≡ Refused n → ((n ≡ 5) × (tooMany m l ≡ true)) ⊎ (w ≡ Refused n)
+    go true hb h = inl (cc, hb)
+    go false hb h = inr h
+
+pub room-refused : (n : ℕ) (file out : List ℕ) (a : Answer) → roomFor file out a ≡ Refused n →
+    (a ≡ refused n) ⊎ ((n ≡ 9) × (length out < length file))
+unfolding roomFor
+room-refused n file out (refused i) e = inl (cc)
+room-refused n file out (accepted j) e = go (ltb (length out) (length file)) refl e
+  where
+    go : (b : Bool) → ltb (length out) (length file) ≡ b → pick b (Refused 9) (Length (length file)) ≡ Refused n →
+        (accepted j ≡ refused n) ⊎ ((n ≡ 9) × (length out < length file))
     go true hb h = inr (cc, ltb-true _ _ hb)
     go false hb h = inl (cc)

@@ -9,11 +9,13 @@ use borrow.Author.Tests.{leb-false, eqb-true}
 use lib.ListN.{length, length-append}
 use Rattle.base.specs.Laws.Tests.{impossible, and-true}
 use Rattle.job.specs.Job.{Edge, Job, blank}
-use Rattle.job.specs.Record.{Kind, rack, step, link, end, durationIn, edgeIn, empty, noRack, stands, full, platformInRange, durationInRange, countInRange, inRange, joins, endsRight, inOrder, added}
+use Rattle.job.specs.Record.{Kind, rack, step, link, end, durationIn, edgeIn, empty, noRack, stands, full, platformInRange}
+use Rattle.job.specs.Record.{durationInRange, countInRange, inRange, joins, added}
 use Rattle.job.specs.Read.{Answer, accepted}
 use Rattle.job.specs.Cause.{Untroubled}
 use Rattle.job.specs.Laws.Turn.{Reads, no-more, halted, past, closed}
 use Rattle.job.specs.Laws.Lists.{Each, each-more, Rising, rising-more}
+use Rattle.job.specs.Laws.Judged.{link-fits}
 use Rattle.job.specs.Laws.Tests.{platform-facts}
 
 -- what stands past the last edge
@@ -71,16 +73,18 @@ with-step rest j b f =
     }
 
 with-link : (rest : List ℕ) (j : Job) → Kept j → Untroubled rest j link → Kept (added j link rest)
-unfolding added full inRange endsRight inOrder
-with-link rest j b f = record {
-  platform-right = b .platform-right;
-  few-tasks = b .few-tasks;
-  tasks-right = b .tasks-right;
-  few-edges = simp length-append (omega (arith, leb-false 1024 (length (j .edges)) (f .room)));
-  counts-right = each-more (λ e. countInRange (e .count)) noEdge (j .edges) (edgeIn rest) (b .counts-right) (f .ranges);
-  edges-join = each-more (joins (length (j .tasks))) noEdge (j .edges) (edgeIn rest) (b .edges-join) (f .ends);
-  edges-rise = rising-more noEdge (j .edges) (edgeIn rest) (b .edges-rise) (f .order);
-}
+unfolding added full inRange
+with-link rest j b f =
+    let g = link-fits j rest (f .fits) in
+    record {
+      platform-right = b .platform-right;
+      few-tasks = b .few-tasks;
+      tasks-right = b .tasks-right;
+      few-edges = simp length-append (omega (arith, leb-false 1024 (length (j .edges)) (f .room)));
+      counts-right = each-more (λ e. countInRange (e .count)) noEdge (j .edges) (edgeIn rest) (b .counts-right) (f .ranges);
+      edges-join = each-more (joins (length (j .tasks))) noEdge (j .edges) (edgeIn rest) (b .edges-join) (g .0);
+      edges-rise = rising-more noEdge (j .edges) (edgeIn rest) (b .edges-rise) (g .1);
+    }
 
 one-rack : (j : Job) → Kept j → stands j rack ≡ true → false ≡ true
 unfolding stands noRack

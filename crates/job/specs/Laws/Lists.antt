@@ -1,5 +1,5 @@
--- Lists by place: what stands where the rest of a list begins, in a list with one entry more, and in a padded list. By induction on the list.
-use mathlib.Core.Path.{_≡_, refl, ap, subst, _∙_}
+-- Lists by place: what stands where the rest of a list begins, in a list with one entry more, and in a padded list.
+use mathlib.Core.Path.{_≡_, refl, ap, sym, subst, _∙_}
 use mathlib.Core.List.{List, [], _∷_, _++_, map}
 use mathlib.Core.Bool.{Bool, true, false}
 use Prim.Native.Nat.{ℕ, zero, suc, _-_, _≤_, _<_}
@@ -66,6 +66,14 @@ module _ (f : Edge → ℕ) (d : Edge) (z : f d ≡ 0) (es : List Edge) where
   column-spare i h = column-at i ∙ ap f (List·getD-eq-default es d h) ∙ z
 
 -- a list is empty if its length is 0, and only then
+pub empty-nil : {A : Type 0} (xs : List A) → empty xs ≡ true → xs ≡ []
+empty-nil [] e = refl
+empty-nil (x ∷ xs) e = cc
+
+pub some-in : {A : Type 0} (xs : List A) → empty xs ≡ false → 1 ≤ length xs
+some-in [] e = impossible (sym e)
+some-in (x ∷ xs) e = omega arith
+
 pub empty-is : {A : Type 0} (xs : List A) → length xs ≡ 0 → empty xs ≡ true
 empty-is [] h = refl
 empty-is (x ∷ xs) h = let n : ⊥ = omega arith in absurd n

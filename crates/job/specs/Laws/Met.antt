@@ -1,46 +1,41 @@
--- How the reader meets the file of a job held as numbers: each trouble is its answer at that record, and so the numbers are 3 to 7.
-use mathlib.Core.Bool.{Bool, true, false, not, _||_}
+-- How the reader meets the file of a job: with the job's first trouble, or it accepts the job as it is (`met`); so the numbers are 3 to 7.
+use mathlib.Core.Bool.{Bool, true, false, not}
 use mathlib.Core.Logic.{_⊎_, inl, inr, ⊎-elim}
 use mathlib.Core.Path.{_≡_, refl, ap, sym, _∙_}
 use mathlib.Core.List.{List, [], _∷_, _++_, flatMap}
 use Prim.Native.Nat.{ℕ, zero, suc, _+_, _^_, _≤_, _<_}
 use native.Mathlib.Omega.{arith}
-use borrow.Author.Tests.{ltb-false}
-use lib.Dec.{eqb, ltb}
+use lib.Dec.{leb}
 use lib.ListN.{length, getD}
 use Rattle.base.specs.Choice.{pick}
-use Rattle.base.specs.Lists.{values}
 use Rattle.base.specs.Laws.Tests.{impossible}
 use Rattle.base.specs.Laws.Values.{length-values, each-value}
+use Rattle.job.specs.declared.Arrays.{Arrays}
 use Rattle.job.specs.declared.Platform.{Platform}
 use Rattle.job.specs.declared.Written.the-variants.{Refused}
-use Rattle.job.specs.Job.{Edge, Job}
-use Rattle.job.specs.Record.{platformInRange, durationInRange, countInRange, joins}
-use Rattle.job.specs.Read.{Answer, accepted, refused, records, readJob}
-use Rattle.job.specs.Write.{stepBytes, linkBytes, fileOf, fileLength, edgeHeld, heldJob, Held, roomFor, writeAnswer}
-use Rattle.job.specs.Pass.{jobOf, edge, key, firstOf, platformTrouble, stepTrouble, linkTrouble, stepsTrouble, linksTrouble, JobJudged}
-use Rattle.job.specs.Laws.Judged.{passOr, passes, stops, rack-fits, above-none}
-use Rattle.job.specs.Laws.Encoded.{read-rack, read-steps, read-links, read-end, read-none, read-early}
-use Rattle.job.specs.Laws.Halt.{room-refused}
+use Rattle.job.specs.Job.{Edge, Job, blank, withRack, withTasks}
+use Rattle.job.specs.Record.{kindOf, empty, stands, platformInRange, durationInRange, countInRange, joins}
+use Rattle.job.specs.Read.{Answer, accepted, refused, refusedOr, judged, records, readJob}
+use Rattle.job.specs.Write.{stepBytes, linkBytes, fileOf, edgeHeld, heldJob, Held, roomFor, tooMany, writeAnswer}
+use Rattle.job.specs.Pass.{edge, key, firstOf, platformTrouble, stepTrouble, linkTrouble, stepsTrouble, linksTrouble, jobTrouble, Met}
+use Rattle.job.specs.Pass.{LinkDue}
+use Rattle.job.specs.Laws.Judged.{passes, stops}
+use Rattle.job.specs.Laws.Due.{racked, first-step, first-link}
+use Rattle.job.specs.Laws.Encoded.{first-met, read-rack, read-steps, read-links, read-end}
+use Rattle.job.specs.Laws.Lists.{empty-nil, some-in}
+use Rattle.job.specs.Laws.Halt.{few-counts, room-refused}
 
 -- a trouble's number: none, or 3 to 7
-abbrev pub Number : ℕ → Type 0
+abbrev Number : ℕ → Type 0
 Number n = (n ≡ 0) ⊎ ((3 ≤ n) × (n ≤ 7))
 
 first-number : (a b : ℕ) → Number a → Number b → Number (firstOf a b)
-first-number a b x y = go (eqb a 0)
-  where
-    go : (t : Bool) → Number (pick t b a)
-    go true = y
-    go false = x
+first-number zero b x y = y
+first-number (suc a) b x y = x
 
-range-number : (t : Bool) → Number (pick t 0 4)
+range-number : (t : Bool) → Number (pick (not t) 4 0)
 range-number true = inl refl
 range-number false = inr (omega arith)
-
-platform-number : (p : Platform) → Number (platformTrouble p)
-unfolding platformTrouble
-platform-number p = range-number (platformInRange p)
 
 steps-number : (ds : List ℕ) → Number (stepsTrouble ds)
 unfolding stepsTrouble stepTrouble
@@ -51,129 +46,140 @@ links-number : (m least : ℕ) (es : List Edge) → Number (linksTrouble m least
 unfolding linksTrouble linkTrouble
 links-number m least [] = inl refl
 links-number m least (e ∷ es) =
-    first-number (linkTrouble m least e) (linksTrouble m (key e + 1) es) (go (countInRange (e .count)) (joins m e) (ltb (key e) least)) (links-number m (key e + 1) es)
+    first-number (linkTrouble m least e) (linksTrouble m (key e + 1) es) (go (countInRange (e .count)) (joins m e) (leb least (key e)))
+    (links-number m (key e + 1) es)
   where
-    go : (c j b : Bool) → Number (pick (not c) 4 (pick (not j) 6 (pick b 7 0)))
+    go : (c j b : Bool) → Number (pick (not c) 4 (pick (not j) 6 (pick (not b) 7 0)))
     go false j b = inr (omega arith)
     go true false b = inr (omega arith)
-    go true true true = inr (omega arith)
-    go true true false = inl refl
+    go true true false = inr (omega arith)
+    go true true true = inl refl
 
--- an answer that comes past a trouble's number is refused with that number, or is the answer past it
-past-trouble : (t n : ℕ) (a : Answer) → Number t → (a ≡ refused n → (3 ≤ n) × (n ≤ 7)) → passOr t a ≡ refused n → (3 ≤ n) × (n ≤ 7)
-past-trouble t n a (inl z) more e = more (sym (passes t a z) ∙ e)
-past-trouble t n a (inr h) more e =
-    let q : refused t ≡ refused n = sym (stops t a (λ z. omega arith)) ∙ e in
+none-number : (b : Bool) → Number (pick b 3 0)
+none-number true = inr (omega arith)
+none-number false = inl refl
+
+job-number : (j : Job) → Number (jobTrouble j)
+unfolding jobTrouble platformTrouble
+job-number j =
+    first-number _ _ (range-number (platformInRange (j .platform)))
+    (first-number _ _ (none-number (empty (j .tasks)))
+    (first-number _ _ (steps-number (j .tasks)) (links-number (length (j .tasks)) 0 (j .edges))))
+
+-- a job whose numbers have as many bytes as a file has for them, and that has as many records as a file can have
+pub record Writable (j : Job) : Type 0 where
+  pub few-tasks : length (j .tasks) ≤ 256
+  pub few-edges : length (j .edges) ≤ 1024
+  pub duration-fits : (t : ℕ) → getD (j .tasks) t 0 < 2 ^ 32
+  pub edge-fits : (i : ℕ) → (getD (j .edges) i (edge 0 0 0) .to < 256) × (getD (j .edges) i (edge 0 0 0) .count < 2 ^ 16)
+
+-- past a trouble's number only where there is none
+under : (n : ℕ) (x y : Answer) → (n ≡ 0 → x ≡ y) → refusedOr n x ≡ refusedOr n y
+under zero x y h = h refl
+under (suc n) x y h = refl
+
+module _ (p : Platform) (n : 1 ≤ p .processors) where
+  -- a job without tasks: the reader meets a link or the end where a step is due
+  untasked : (es : List Edge) → records (flatMap linkBytes es ++ (4 ∷ [])) 0 (withRack blank p) ≡ refused 3
+  unfolding records kindOf judged stands flatMap linkBytes blank
+  untasked [] = refl
+  untasked (e ∷ es) = refl
+
+module _ (j : Job) (w : Writable j) where
+  abbrev links : List ℕ
+  links = flatMap linkBytes (j .edges) ++ (4 ∷ [])
+
+  -- what is left after the rack: no task, or steps and links
+  after-rack : 1 ≤ j .platform .processors → records (flatMap stepBytes (j .tasks) ++ links) 0 (withRack blank (j .platform)) ≡
+      refusedOr (firstOf (pick (empty (j .tasks)) 3 0) (firstOf (stepsTrouble (j .tasks)) (linksTrouble (length (j .tasks)) 0 (j .edges))))
+      (accepted j)
+  unfolding flatMap blank stands
+  after-rack n = go (empty (j .tasks)) refl
+    where
+      go : (b : Bool) → empty (j .tasks) ≡ b → records (flatMap stepBytes (j .tasks) ++ links) 0 (withRack blank (j .platform)) ≡
+          refusedOr (firstOf (pick b 3 0) (firstOf (stepsTrouble (j .tasks)) (linksTrouble (length (j .tasks)) 0 (j .edges)))) (accepted j)
+      go true e = rw (empty-nil (j .tasks) e) (untasked (j .platform) n (j .edges))
+      go false e =
+          let i : Job = withTasks (withRack blank (j .platform)) (j .tasks) in
+          let d : LinkDue i (length (j .tasks)) 0 0 = first-link i (length (j .tasks)) (some-in (j .tasks) e) refl refl in
+          read-steps (withRack blank (j .platform)) 0 (j .tasks) links (first-step (j .platform) n) (w .duration-fits)
+          (omega (arith, w .few-tasks))
+          ∙ ap (refusedOr (stepsTrouble (j .tasks)))
+          (read-links i (length (j .tasks)) 0 0 (j .edges) (4 ∷ []) d (w .edge-fits) (omega (arith, w .few-edges))
+          ∙ ap (refusedOr (linksTrouble (length (j .tasks)) 0 (j .edges))) (read-end j (simp e)))
+          ∙ sym (first-met (stepsTrouble (j .tasks)) (linksTrouble (length (j .tasks)) 0 (j .edges)) (accepted j))
+
+  pub met : Met j (jobTrouble j)
+  unfolding readJob fileOf jobTrouble
+  met =
+      read-rack (j .platform) (flatMap stepBytes (j .tasks) ++ links)
+      ∙ under (platformTrouble (j .platform)) _ _ (λ e. after-rack (racked (j .platform) e))
+      ∙ sym (first-met (platformTrouble (j .platform)) _ (accepted j))
+
+-- a trouble that is met before all records are read: in the rack, for want of a step, in a step
+module _ (j : Job) where
+  abbrev steps : List ℕ
+  steps = flatMap stepBytes (j .tasks) ++ (flatMap linkBytes (j .edges) ++ (4 ∷ []))
+
+  pub met-rack : (r : ℕ) → r ≡ platformTrouble (j .platform) → (r ≡ 0 → ⊥) → Met j r
+  unfolding readJob fileOf
+  met-rack r is n = read-rack (j .platform) steps ∙ rw (← is) (stops r _ n ∙ sym (stops r (accepted j) n))
+
+  module _ (e : platformTrouble (j .platform) ≡ 0) where
+    past-rack : readJob (fileOf j) ≡ records steps 0 (withRack blank (j .platform))
+    unfolding readJob fileOf
+    past-rack = read-rack (j .platform) steps ∙ passes (platformTrouble (j .platform)) _ e
+
+    pub met-none : j .tasks ≡ [] → Met j 3
+    unfolding flatMap
+    met-none h = past-rack ∙ rw h (untasked (j .platform) (racked (j .platform) e) (j .edges))
+
+    pub met-step : ((i : ℕ) → getD (j .tasks) i 0 < 2 ^ 32) → length (j .tasks) ≤ 256 →
+        (r : ℕ) → r ≡ stepsTrouble (j .tasks) → (r ≡ 0 → ⊥) → Met j r
+    met-step fits few r is n =
+        past-rack
+        ∙ read-steps (withRack blank (j .platform)) 0 (j .tasks) (flatMap linkBytes (j .edges) ++ (4 ∷ []))
+        (first-step (j .platform) (racked (j .platform) e)) fits (omega arith)
+        ∙ rw (← is) (stops r _ n ∙ sym (stops r (accepted j) n))
+
+-- an accepted file of a job is accepted as this job
+pub met-accepted : (n : ℕ) (j i : Job) → refusedOr n (accepted j) ≡ accepted i → i ≡ j
+met-accepted zero j i e = cc
+met-accepted (suc n) j i e = let z : false ≡ true = cc in impossible z
+
+met-refused : (t n : ℕ) (j : Job) → Number t → refusedOr t (accepted j) ≡ refused n → (3 ≤ n) × (n ≤ 7)
+met-refused t n j (inl z) e =
+    let q : accepted j ≡ refused n = sym (passes t (accepted j) z) ∙ e in
+    let f : false ≡ true = cc in impossible f
+met-refused t n j (inr h) e =
+    let q : refused t ≡ refused n = sym (stops t (accepted j) (λ z. omega arith)) ∙ e in
     let s : t ≡ n = cc in
     omega arith
 
-never-refused : (j : Job) (n : ℕ) → accepted j ≡ refused n → (3 ≤ n) × (n ≤ 7)
-never-refused j n e = let z : false ≡ true = cc in impossible z
+-- a job held in arrays can be written down
+pub held-writable : (p : Platform) (m l : ℕ) (a : Arrays) → (m ≤ 256) × (l ≤ 1024) → Held a → Writable (heldJob p m l a)
+unfolding heldJob edgeHeld
+held-writable p m l a few h = record {
+  few-tasks = omega (arith, length-values (λ t. getD (a .durations) t 0) 0 m);
+  few-edges = omega (arith, length-values (edgeHeld (a .from) (a .to) (a .counts)) 0 l);
+  duration-fits = each-value (λ t. getD (a .durations) t 0) (λ d. d < 2 ^ 32) 0 (omega arith) (h .duration-fits) 0 m;
+  edge-fits = each-value (edgeHeld (a .from) (a .to) (a .counts)) (λ e. (e .to < 256) × (e .count < 2 ^ 16)) (edge 0 0 0)
+      (omega arith, omega arith)
+      (λ i. (h .to-fits i, h .count-fits i)) 0 l;
+}
 
--- a job without tasks: the reader meets a link or the end where a step is due
-untasked : (p : Platform) (from to counts : List ℕ) (l : ℕ) → records (flatMap linkBytes (values (edgeHeld from to counts) 0 l) ++ (4 ∷ [])) 0 (jobOf p [] []) ≡ refused 3
-unfolding values flatMap
-untasked p from to counts zero = read-none p [] []
-untasked p from to counts (suc k) = read-early p (edgeHeld from to counts 0) (values (edgeHeld from to counts) 1 k) (4 ∷ [])
-
--- the job held as numbers, as the reader meets it
-module _ (p : Platform) (m l : ℕ) (durations from to counts : List ℕ) where
-  abbrev pub job : Job
-  job = heldJob p m l durations from to counts
-
-  abbrev pub tasks : List ℕ
-  tasks = values (λ t. getD durations t 0) 0 m
-
-  abbrev pub edges : List Edge
-  edges = values (edgeHeld from to counts) 0 l
-
-  abbrev pub links : List ℕ
-  links = flatMap linkBytes edges ++ (4 ∷ [])
-
-  read-all : readJob (fileOf job) ≡ passOr (platformTrouble p) (records (flatMap stepBytes tasks ++ links) 0 (jobOf p [] []))
-  unfolding readJob fileOf heldJob
-  read-all = read-rack p (flatMap stepBytes tasks ++ links)
-
-  pub bad-rack : (r : ℕ) → r ≡ platformTrouble p → (r ≡ 0 → ⊥) → readJob (fileOf job) ≡ refused r
-  bad-rack r is z = rw is (read-all ∙ stops _ _ (λ e. z (is ∙ e)))
-
-  module _ (ok : platformTrouble p ≡ 0) where
-    pub no-step : m ≡ 0 → readJob (fileOf job) ≡ refused 3
-    unfolding values flatMap
-    no-step z = read-all ∙ passes _ _ ok ∙ none m z
-      where
-        none : (m : ℕ) → m ≡ 0 → records (flatMap stepBytes (values (λ t. getD durations t 0) 0 m) ++ links) 0 (jobOf p [] []) ≡ refused 3
-        none zero z = untasked p from to counts l
-        none (suc k) z = let n : ⊥ = omega arith in absurd n
-
-    module _ (few : m ≤ 256) (fits : (t : ℕ) → getD durations t 0 < 2 ^ 32) where
-      steps-read : readJob (fileOf job) ≡ passOr (stepsTrouble tasks) (records links 0 (jobOf p tasks []))
-      steps-read =
-          read-all ∙ passes _ _ ok
-          ∙ read-steps p (rack-fits p ok) [] tasks links
-          (each-value (λ t. getD durations t 0) (λ d. d < 2 ^ 32) 0 (omega arith) fits 0 m) (omega (arith, length-values (λ t. getD durations t 0) 0 m))
-
-      pub bad-step : (r : ℕ) → r ≡ stepsTrouble tasks → (r ≡ 0 → ⊥) → readJob (fileOf job) ≡ refused r
-      bad-step r is z = rw is (steps-read ∙ stops _ _ (λ e. z (is ∙ e)))
-
-      module _ (good : stepsTrouble tasks ≡ 0) (tasked : m ≡ 0 → ⊥) (few′ : l ≤ 1024)
-          (to-fits : (i : ℕ) → getD to i 0 < 2 ^ 8) (count-fits : (i : ℕ) → getD counts i 0 < 2 ^ 16) where
-        pub links-read : readJob (fileOf job) ≡ passOr (linksTrouble m 0 edges) (accepted (jobOf p tasks edges))
-        unfolding values edgeHeld
-        links-read = steps-read ∙ passes _ _ good ∙ go m tasked
-          where
-            go : (m : ℕ) → (m ≡ 0 → ⊥) →
-                records links 0 (jobOf p (values (λ t. getD durations t 0) 0 m) []) ≡ passOr (linksTrouble m 0 edges) (accepted (jobOf p (values (λ t. getD durations t 0) 0 m) edges))
-            go zero z = absurd (z refl)
-            go (suc k) z =
-                let e : suc (length (values (λ t. getD durations t 0) 1 k)) ≡ suc k = ap suc (length-values (λ t. getD durations t 0) 1 k) in
-                read-links p (getD durations 0 0) (values (λ t. getD durations t 0) 1 k) [] edges (4 ∷ []) 0
-                (each-value (edgeHeld from to counts) (λ e. (e .to < 256) × (e .count < 2 ^ 16)) (edge 0 0 0) (omega arith, omega arith) (λ n. (to-fits n, count-fits n)) 0 l)
-                (omega (arith, length-values (edgeHeld from to counts) 0 l)) above-none
-                ∙ rw (e, read-end p (getD durations 0 0) (values (λ t. getD durations t 0) 1 k) edges)
-
-        pub last : (r : ℕ) → r ≡ linksTrouble m 0 edges → JobJudged job r
-        unfolding heldJob
-        last r is = record { refuses = λ z. rw is (links-read ∙ stops _ _ (λ e. z (is ∙ e))); accepts = λ z. links-read ∙ passes _ _ (sym is ∙ z) }
-
--- the reader refuses the file of a job held as numbers with 3 to 7 only
-module _ (p : Platform) (m l : ℕ) (durations from to counts : List ℕ) (few : m ≤ 256) (few′ : l ≤ 1024)
-    (fits : (t : ℕ) → getD durations t 0 < 2 ^ 32) (to-fits : (i : ℕ) → getD to i 0 < 2 ^ 8) (count-fits : (i : ℕ) → getD counts i 0 < 2 ^ 16) where
-  zero-or : (n : ℕ) → (n ≡ 0) ⊎ (n ≡ 0 → ⊥)
-  zero-or zero = inl refl
-  zero-or (suc n) = inr (λ e. omega arith)
-
-  pub met-numbers : (n : ℕ) → readJob (fileOf (heldJob p m l durations from to counts)) ≡ refused n → (3 ≤ n) × (n ≤ 7)
-  met-numbers n e = ⊎-elim racked (λ h. told (platformTrouble p) h (bad-rack p m l durations from to counts _ refl (λ z. omega arith))) (platform-number p)
-    where
-      told : (t : ℕ) → (3 ≤ t) × (t ≤ 7) → readJob (fileOf (heldJob p m l durations from to counts)) ≡ refused t → (3 ≤ n) × (n ≤ 7)
-      told t h r = let q : refused t ≡ refused n = sym r ∙ e in let s : t ≡ n = cc in omega arith
-
-      linked : platformTrouble p ≡ 0 → (m ≡ 0 → ⊥) → stepsTrouble (tasks p m l durations from to counts) ≡ 0 → (3 ≤ n) × (n ≤ 7)
-      linked ok tasked good =
-          past-trouble _ n _ (links-number m 0 (edges p m l durations from to counts)) (never-refused _ n)
-          (sym (links-read p m l durations from to counts ok few fits good tasked few′ to-fits count-fits) ∙ e)
-
-      racked : platformTrouble p ≡ 0 → (3 ≤ n) × (n ≤ 7)
-      racked ok = ⊎-elim
-          (λ z. told 3 (omega arith) (no-step p m l durations from to counts ok z))
-          (λ tasked. ⊎-elim (linked ok tasked) (λ h. told _ h (bad-step p m l durations from to counts ok few fits _ refl (λ z. omega arith))) (steps-number (tasks p m l durations from to counts)))
-          (zero-or m)
-
-  -- and so the writer's numbers are these and 9
-  pub answer-numbers : (n : ℕ) (out : List ℕ) → roomFor (fileLength m l) out (readJob (fileOf (heldJob p m l durations from to counts))) ≡ Refused n →
-      ((3 ≤ n) × (n ≤ 7)) ⊎ (n ≡ 9)
-  answer-numbers n out e =
-      ⊎-elim (λ r. inl (met-numbers n r)) (λ r. inr (r .0)) (room-refused (fileLength m l) n out (readJob (fileOf (heldJob p m l durations from to counts))) e)
-
-pub writer-numbers : (p : Platform) (m l : ℕ) (durations from to counts out : List ℕ) (n : ℕ) → Held durations to counts →
-    writeAnswer m l (heldJob p m l durations from to counts) out ≡ Refused n → ((3 ≤ n) × (n ≤ 7)) ⊎ (n ≡ 9)
+-- and so the writer's numbers are 3 to 7 and 9
+pub writer-numbers : (p : Platform) (m l : ℕ) (a : Arrays) (out : List ℕ) (n : ℕ) → Held a →
+    writeAnswer m l (heldJob p m l a) out ≡ Refused n → ((3 ≤ n) × (n ≤ 7)) ⊎ (n ≡ 9)
 unfolding writeAnswer
-writer-numbers p m l durations from to counts out n h e = go (ltb 256 m) (ltb 1024 l) refl refl e
+writer-numbers p m l a out n h e = go (tooMany m l) refl e
   where
-    go : (s t : Bool) → ltb 256 m ≡ s → ltb 1024 l ≡ t →
-        pick (s || t) (Refused 5) (roomFor (fileLength m l) out (readJob (fileOf (heldJob p m l durations from to counts)))) ≡ Refused n → ((3 ≤ n) × (n ≤ 7)) ⊎ (n ≡ 9)
-    go true t hs ht q = let z : 5 ≡ n = cc in inl (omega arith)
-    go false true hs ht q = let z : 5 ≡ n = cc in inl (omega arith)
-    go false false hs ht q =
-        answer-numbers p m l durations from to counts (ltb-false _ _ hs) (ltb-false _ _ ht) (h .duration-fits) (h .to-fits) (h .count-fits) n out q
+    j : Job
+    j = heldJob p m l a
+
+    go : (b : Bool) → tooMany m l ≡ b → pick b (Refused 5) (roomFor (fileOf j) out (readJob (fileOf j))) ≡ Refused n →
+        ((3 ≤ n) × (n ≤ 7)) ⊎ (n ≡ 9)
+    go true hb q = let z : 5 ≡ n = cc in inl (omega arith)
+    go false hb q =
+        ⊎-elim (λ r. inl (met-refused (jobTrouble j) n j (job-number j) (sym (met j (held-writable p m l a (few-counts m l hb) h)) ∙ r)))
+        (λ r. inr (r .0)) (room-refused n (fileOf j) out (readJob (fileOf j)) q)

@@ -1,5 +1,5 @@
--- How much of a file settles its answer: a record is judged by its body, and by whether a byte is left at the end record, so the bytes that the records still to come can
--- have are enough (`need`). By induction on the file.
+-- How much of a file settles its answer: a record is judged by its body, and by whether a byte is left at the end record, so the bytes
+-- that the records still to come can have are enough (`need`). By induction on the file.
 use mathlib.Core.Bool.{Bool, true, false, not}
 use mathlib.Core.Logic.{⊎-elim}
 use mathlib.Core.Path.{_≡_, refl, _∙_, sym}
@@ -14,8 +14,10 @@ use lib.Seq.{take-nil, take-take, getD-take}
 use Rattle.base.specs.Choice.{pick}
 use Rattle.base.specs.Laws.Tests.{lt-or-ge}
 use Rattle.job.specs.Job.{Job, blank}
-use Rattle.job.specs.Record.{Kind, rack, step, link, end, kindOf, bodyLength, empty, noRack, stands, full, inRange, endsRight, inOrder, added, platformIn, durationIn, edgeIn}
-use Rattle.job.specs.Read.{Answer, refused, after, judged, records, readJob}
+use Rattle.job.specs.Record.{Kind, rack, step, link, end, kindOf, bodyLength, empty, noRack, stands, full, inRange, misfit, added}
+use Rattle.job.specs.Record.{platformIn, durationIn, edgeIn}
+use Rattle.job.specs.Read.{Answer, refused, refusedOr, after, judged, records, readJob}
+use Rattle.job.specs.Write.{greatestLength}
 use Rattle.job.specs.Laws.Judged.{misplaced, crowded}
 use Rattle.job.specs.Laws.Tests.{platform-facts}
 
@@ -54,23 +56,26 @@ empty-prefix (suc n) (x ∷ rest) h = refl
 -- the same body: the tests and the job with this record more
 record Same (a b : List ℕ) (j : Job) (k : Kind) : Type 0 where
   range : inRange k a ≡ inRange k b
-  joint : endsRight j k a ≡ endsRight j k b
-  order : inOrder j k a ≡ inOrder j k b
+  fit : misfit j k a ≡ misfit j k b
   more : added j k a ≡ added j k b
 
 same : (n : ℕ) (rest : List ℕ) (j : Job) (k : Kind) → bodyLength k ≤ n → Same (take n rest) rest j k
-unfolding bodyLength inRange endsRight inOrder added
-same n rest j rack h = let e : platformIn (take n rest) ≡ platformIn rest = platform-prefix n rest h in record { range = rw e; joint = refl; order = refl; more = rw e }
-same n rest j step h = let e : durationIn (take n rest) ≡ durationIn rest = duration-prefix n rest h in record { range = rw e; joint = refl; order = refl; more = rw e }
-same n rest j link h = let e : edgeIn (take n rest) ≡ edgeIn rest = edge-prefix n rest h in record { range = rw e; joint = rw e; order = rw e; more = rw e }
-same n rest j end h = record { range = refl; joint = refl; order = refl; more = refl }
+unfolding bodyLength inRange misfit added
+same n rest j rack h =
+    let e : platformIn (take n rest) ≡ platformIn rest = platform-prefix n rest h in
+    record { range = rw e; fit = refl; more = rw e }
+same n rest j step h =
+    let e : durationIn (take n rest) ≡ durationIn rest = duration-prefix n rest h in
+    record { range = rw e; fit = refl; more = rw e }
+same n rest j link h = let e : edgeIn (take n rest) ≡ edgeIn rest = edge-prefix n rest h in record { range = rw e; fit = rw e; more = rw e }
+same n rest j end h = record { range = refl; fit = refl; more = refl }
 
 -- the tests lead to the same answer, if what follows them is the same
-through : (s f l r e o : Bool) (x y : Answer) → (r ≡ true → x ≡ y) →
-    pick (not s) (refused 3) (pick f (refused 5) (pick l (refused 1) (pick (not r) (refused 4) (pick (not e) (refused 6) (pick (not o) (refused 7) x)))))
-    ≡ pick (not s) (refused 3) (pick f (refused 5) (pick l (refused 1) (pick (not r) (refused 4) (pick (not e) (refused 6) (pick (not o) (refused 7) y)))))
-through s f l true e o x y h = rw (h refl)
-through s f l false e o x y h = refl
+through : (s f l r : Bool) (n : ℕ) (x y : Answer) → (r ≡ true → x ≡ y) →
+    pick (not s) (refused 3) (pick f (refused 5) (pick l (refused 1) (pick (not r) (refused 4) (refusedOr n x))))
+    ≡ pick (not s) (refused 3) (pick f (refused 5) (pick l (refused 1) (pick (not r) (refused 4) (refusedOr n y))))
+through s f l true n x y h = rw (h refl)
+through s f l false n x y h = refl
 
 at-least : (b : Bool) → 2 ≤ pick b 6 2
 at-least true = omega arith
@@ -86,7 +91,8 @@ module _ (n : ℕ) (rest : List ℕ) (j : Job) (h : need j ≤ suc n)
   body-inside link s f = omega (arith, leb-false 1024 (length (j .edges)) f)
   body-inside end s f = omega arith
 
-  left-inside : (k : Kind) → stands j k ≡ true → full j k ≡ false → inRange k rest ≡ true → 1 ≤ bodyLength k → bodyLength k + need (added j k rest) ≤ n
+  left-inside : (k : Kind) → stands j k ≡ true → full j k ≡ false → inRange k rest ≡ true → 1 ≤ bodyLength k →
+      bodyLength k + need (added j k rest) ≤ n
   unfolding need stands full bodyLength inRange added noRack
   left-inside rack s f r b =
       let p : 1 ≤ platformIn rest .processors = platform-facts (platformIn rest) r .0 in
@@ -99,7 +105,8 @@ module _ (n : ℕ) (rest : List ℕ) (j : Job) (h : need j ≤ suc n)
       records (take n rest) (bodyLength k) (added j k (take n rest)) ≡ records rest (bodyLength k) (added j k rest)
   more-same k s f r b = rw (same n rest j k (body-inside k s f) .more) (ih (bodyLength k) (added j k rest) (left-inside k s f r b))
 
-  after-same : (k : Kind) → stands j k ≡ true → full j k ≡ false → inRange k rest ≡ true → after k (take n rest) j (records (take n rest)) ≡ after k rest j (records rest)
+  after-same : (k : Kind) → stands j k ≡ true → full j k ≡ false → inRange k rest ≡ true →
+      after k (take n rest) j (records (take n rest)) ≡ after k rest j (records rest)
   unfolding after bodyLength need
   after-same rack s f r = more-same rack s f r (omega arith)
   after-same step s f r = more-same step s f r (omega arith)
@@ -111,14 +118,15 @@ module _ (n : ℕ) (rest : List ℕ) (j : Job) (h : need j ≤ suc n)
   judged-same none = refl
   judged-same (some k) = go (stands j k) (full j k) refl refl
     where
-      go : (s f : Bool) → stands j k ≡ s → full j k ≡ f → judged (some k) (take n rest) j (records (take n rest)) ≡ judged (some k) rest j (records rest)
+      go : (s f : Bool) → stands j k ≡ s → full j k ≡ f → judged (some k) (take n rest) j (records (take n rest)) ≡
+          judged (some k) rest j (records rest)
       go false f hs hf = misplaced k (take n rest) j (records (take n rest)) hs ∙ sym (misplaced k rest j (records rest) hs)
       go true true hs hf = crowded k (take n rest) j (records (take n rest)) hs hf ∙ sym (crowded k rest j (records rest) hs hf)
       go true false hs hf =
           let b : bodyLength k ≤ n = body-inside k hs hf in
           let e : Same (take n rest) rest j k = same n rest j k b in
-          rw (short-prefix (bodyLength k) n rest b, e .range, e .joint, e .order)
-          (through (stands j k) (full j k) (ltb (length rest) (bodyLength k)) (inRange k rest) (endsRight j k rest) (inOrder j k rest) _ _ (after-same k hs hf))
+          rw (short-prefix (bodyLength k) n rest b, e .range, e .fit)
+          (through (stands j k) (full j k) (ltb (length rest) (bodyLength k)) (inRange k rest) (misfit j k rest) _ _ (after-same k hs hf))
 
 -- so many bytes are enough
 enough : (xs : List ℕ) (s n : ℕ) (j : Job) → s + need j ≤ n → records (take n xs) s j ≡ records xs s j
@@ -128,6 +136,6 @@ enough (b ∷ xs) s zero j h = absurd (omega (arith, at-least (noRack j)))
 enough (b ∷ xs) (suc s) (suc n) j h = enough xs s n j (omega arith)
 enough (b ∷ xs) zero (suc n) j h = judged-same n xs j (omega arith) (λ s i. enough xs s n i) (kindOf b)
 
-pub first-bytes : (file : List ℕ) → readJob (take 6406 file) ≡ readJob file
+pub first-bytes : (file : List ℕ) (n : ℕ) → greatestLength < n → readJob (take n file) ≡ readJob file
 unfolding readJob need blank noRack
-first-bytes file = enough file 0 6406 blank (omega arith)
+first-bytes file n h = enough file 0 n blank (omega arith)

@@ -1,5 +1,5 @@
--- An accepted file is the file of its job: by induction on the chain of turns, the bytes read so far are the records of the job so far, since a number's bytes are those
--- that it was read from.
+-- An accepted file is the file of its job: by induction on the chain of turns, the bytes read so far are the records of the job so far,
+-- since a number's bytes are those that it was read from.
 use mathlib.Core.Bool.{true, false, not}
 use mathlib.Core.Path.{_≡_, refl, ap, _∙_, sym}
 use mathlib.Core.List.{List, [], _∷_, _++_, append-assoc, append-nil, flatMap}
@@ -15,21 +15,25 @@ use Rattle.base.specs.Laws.Number.{bytes-number}
 use Rattle.base.specs.Laws.Stored.{flat-append}
 use Rattle.job.specs.declared.Platform.{Platform}
 use Rattle.job.specs.declared.Written.the-variants.{Length}
-use Rattle.job.specs.Job.{Edge, Job, blank}
-use Rattle.job.specs.Record.{Kind, rack, step, link, end, bodyLength, noRack, stands, inRange, added, platformIn, durationIn, edgeIn}
+use Rattle.job.specs.Job.{Edge, Job, blank, withTasks, withEdges}
+use Rattle.job.specs.Record.{Kind, rack, step, link, end, bodyLength, empty, noRack, stands, inRange, added, platformIn, durationIn}
+use Rattle.job.specs.Record.{edgeIn}
 use Rattle.job.specs.Read.{Answer, accepted, readJob}
-use Rattle.job.specs.Write.{rackBytes, stepBytes, linkBytes, fileOf, fileLength, roomFor, writeAnswer, writeOut}
+use Rattle.job.specs.Write.{rackBytes, stepBytes, linkBytes, fileOf, greatestLength, roomFor, tooMany, writeAnswer, writeOut}
 use Rattle.job.specs.Cause.{Untroubled}
-use Rattle.job.specs.Pass.{jobOf}
 use Rattle.job.specs.Laws.Tests.{platform-facts}
 use Rattle.job.specs.Laws.Written.{file-size}
+use Rattle.job.specs.Laws.Lists.{empty-nil}
 use Rattle.job.specs.Laws.Kinds.{kindByte, kind-byte}
 use Rattle.job.specs.Laws.Turn.{Reads, no-more, halted, past, closed, reads}
 
 -- the job so far, and the bytes that it was read from
+abbrev bytesOf : Job → List ℕ
+bytesOf j = rackBytes (j .platform) ++ (flatMap stepBytes (j .tasks) ++ flatMap linkBytes (j .edges))
+
 data ReadFrom : Job → List ℕ → Type 0 where
   start : ReadFrom blank []
-  under-way : (p : Platform) (ts : List ℕ) (es : List Edge) → 1 ≤ p .processors → ReadFrom (jobOf p ts es) (rackBytes p ++ (flatMap stepBytes ts ++ flatMap linkBytes es))
+  under-way : {j : Job} {bs : List ℕ} → 1 ≤ j .platform .processors → bs ≡ bytesOf j → ReadFrom j bs
 
 bytes-take : (n : ℕ) (bs : List ℕ) → Bytes bs → Bytes (take n bs)
 bytes-take zero bs h = none
@@ -73,36 +77,44 @@ grown : (k : Kind) (rest : List ℕ) (j : Job) (bs : List ℕ) → 1 ≤ bodyLen
 unfolding bodyLength added stands noRack inRange blank flatMap
 grown rack rest j bs h b f start =
     let p : Platform = platformIn rest in
-    rw (← rack-bytes rest (f .whole)) (rw (append-nil (rackBytes p)) at (under-way p [] [] (platform-facts p (f .ranges) .0)))
-grown rack rest j bs h b f (under-way p ts es n) = let z : p .processors ≡ 0 = eqb-true (p .processors) 0 (f .placed) in absurd (omega arith)
+    under-way (platform-facts p (f .ranges) .0) (sym (rack-bytes rest (f .whole)) ∙ sym (append-nil (rackBytes p)))
+grown rack rest j bs h b f (under-way n e) =
+    let z : j .platform .processors ≡ 0 = eqb-true (j .platform .processors) 0 (f .placed) in absurd (omega arith)
 grown step rest j bs h b f start = impossible (f .placed)
-grown step rest j bs h b f (under-way p ts [] n) =
+grown step rest j bs h b f (under-way n e) =
     let d : ℕ = durationIn rest in
-    rw (← step-bytes rest b (f .whole), append-nil (flatMap stepBytes ts), append-assoc (rackBytes p) (flatMap stepBytes ts) (stepBytes d), ← flatMap-more stepBytes ts d)
-    (rw (append-nil (flatMap stepBytes (ts ++ (d ∷ [])))) at (under-way p (ts ++ (d ∷ [])) [] n))
-grown step rest j bs h b f (under-way p ts (e ∷ es) n) = impossible (and-true (not (eqb (p .processors) 0)) false (f .placed) .1)
+    let steps : List ℕ = flatMap stepBytes (j .tasks) in
+    let none : j .edges ≡ [] = empty-nil (j .edges) (and-true (not (eqb (j .platform .processors) 0)) (empty (j .edges)) (f .placed) .1) in
+    let q : bs ++ (2 ∷ take 4 rest) ≡ bytesOf (withTasks j (d ∷ [])) =
+    rw (e, none, ← step-bytes rest b (f .whole), append-nil steps, flatMap-more stepBytes (j .tasks) d, append-nil (steps ++ stepBytes d))
+    (simp append-assoc) in
+    under-way n q
 grown link rest j bs h b f start = impossible (f .placed)
-grown link rest j bs h b f (under-way p ts es n) =
-    let e : Edge = edgeIn rest in
-    let steps : List ℕ = flatMap stepBytes ts in
-    let links : List ℕ = flatMap linkBytes es in
-    rw (← link-bytes rest b (f .whole), append-assoc (rackBytes p) (steps ++ links) (linkBytes e), append-assoc steps links (linkBytes e), ← flatMap-more linkBytes es e)
-    (under-way p ts (es ++ (e ∷ [])) n)
+grown link rest j bs h b f (under-way n e) =
+    let x : Edge = edgeIn rest in
+    let steps : List ℕ = flatMap stepBytes (j .tasks) in
+    let links : List ℕ = flatMap linkBytes (j .edges) in
+    let q : bs ++ (3 ∷ take 4 rest) ≡ bytesOf (withEdges j (x ∷ [])) =
+    rw (e, ← link-bytes rest b (f .whole), flatMap-more linkBytes (j .edges) x)
+    (simp append-assoc) in
+    under-way n q
 grown end rest j bs h b f r = absurd (omega arith)
 
 -- the end record closes the file of the job so far
 closes : (j : Job) (bs : List ℕ) → stands j end ≡ true → ReadFrom j bs → bs ++ (4 ∷ []) ≡ fileOf j
 unfolding stands blank fileOf
 closes j bs s start = impossible s
-closes j bs s (under-way p ts es n) = simp append-assoc
+closes j bs s (under-way n e) = rw e (simp append-assoc)
 
 -- the bytes read so far and those that are left are the file of the accepted job
-whole-file : {xs : List ℕ} {j : Job} {a : Answer} → Reads xs j a → (i : Job) → a ≡ accepted i → Bytes xs → (bs : List ℕ) → ReadFrom j bs → bs ++ xs ≡ fileOf i
+whole-file : {xs : List ℕ} {j : Job} {a : Answer} → Reads xs j a → (i : Job) → a ≡ accepted i → Bytes xs → (bs : List ℕ) → ReadFrom j bs →
+    bs ++ xs ≡ fileOf i
 whole-file no-more i e b bs r = let z : false ≡ true = cc in impossible z
 whole-file (halted c) i e b bs r = let z : false ≡ true = cc in impossible z
 whole-file (past {b = x} {rest = rest} {j = j} k q h f t) i e (more l b) bs r =
     let n : ℕ = bodyLength k in
-    let w : bs ++ (kindByte k ∷ take n rest) ++ drop n rest ≡ fileOf i = whole-file t i e (bytes-drop n rest b) (bs ++ (kindByte k ∷ take n rest)) (grown k rest j bs h b f r) in
+    let w : bs ++ (kindByte k ∷ take n rest) ++ drop n rest ≡ fileOf i =
+    whole-file t i e (bytes-drop n rest b) (bs ++ (kindByte k ∷ take n rest)) (grown k rest j bs h b f r) in
     rw (kind-byte x k q) (rw (append-assoc bs (kindByte k ∷ take n rest) (drop n rest), take-append-drop n rest) at w)
 whole-file (closed {b = x} {rest = rest} {j = j} q f z) i e b bs r =
     let y : j ≡ i = cc in
@@ -118,13 +130,12 @@ pub written-back : (file : List ℕ) (j : Job) (out : List ℕ) → Bytes file �
     length (j .tasks) ≤ 256 → length (j .edges) ≤ 1024 →
     (writeAnswer (length (j .tasks)) (length (j .edges)) j out ≡ Length (length file))
     × (writeOut (Length (length file)) j out ≡ file ++ drop (length file) out)
-unfolding writeAnswer roomFor writeOut
+unfolding writeAnswer tooMany roomFor writeOut
 written-back file j out b e h ht he =
     let q : fileOf j ≡ file = same-file file j b e in
-    let s : fileLength (length (j .tasks)) (length (j .edges)) ≡ length file = sym (file-size j) ∙ ap length q in
-    (simp (le-ltb 256 (length (j .tasks)), le-ltb 1024 (length (j .edges)), q, e, s, le-ltb (length out) (length file)), rw q)
+    (simp (le-ltb 256 (length (j .tasks)), le-ltb 1024 (length (j .edges)), q, e, le-ltb (length out) (length file)), rw q)
 
 -- .. and has no more bytes than the greatest one
-pub file-bound : (file : List ℕ) (j : Job) → Bytes file → readJob file ≡ accepted j → length (j .tasks) ≤ 256 → length (j .edges) ≤ 1024 → length file ≤ 6405
-unfolding fileLength
+pub file-bound : (file : List ℕ) (j : Job) → Bytes file → readJob file ≡ accepted j → length (j .tasks) ≤ 256 → length (j .edges) ≤ 1024 →
+    length file ≤ greatestLength
 file-bound file j b e ht he = omega (arith, file-size j, ap length (same-file file j b e))

@@ -1,25 +1,65 @@
--- An array that is is-padded from the front, its other places 0: one more place is-padded, and what the array is in the end.
-use mathlib.Core.Path.{_≡_, ap, sym, _∙_}
-use mathlib.Core.List.{List, _++_, _∷_, []}
+-- An array that is filled from the front, its other places 0: one more place filled, and what the array is in the end.
+use mathlib.Core.Path.{_≡_, refl, ap, sym, _∙_}
+use mathlib.Core.List.{List, map, _++_, [], _∷_}
 use Prim.Native.Nat.{ℕ, suc, _+_, _-_, _≤_, _<_}
-use native.Mathlib.Numerals.{add-one}
 use native.Mathlib.Omega.{arith}
-use lib.ListN.{length, take, drop, set, replicate, take-append-drop}
-use lib.Seq.{drop-drop, drop-set-lt, take-suc-set, length-take-le}
-use Rattle.job.specs.Read.{padded}
+use lib.ListN.{length, getD, take, drop, set, replicate, take-append-drop, length-set, length-replicate}
+use lib.Seq.{drop-drop, drop-set-lt, length-take-le, getD-set-same, getD-set-other}
+use Rattle.base.specs.Lists.{values}
+use Rattle.base.specs.Laws.Values.{map-values, values-same, values-take, values-more}
+use Rattle.job.specs.declared.Arrays.{Arrays}
+use Rattle.job.specs.declared.Platform.{Platform}
+use Rattle.job.specs.Job.{Edge}
+use Rattle.job.specs.Read.{padded, arraysOf}
+use Rattle.job.specs.Write.{edgeHeld, heldJob}
+use Rattle.job.specs.Pass.{Front}
 
-module _ (n m : ℕ) (a : List ℕ) (long : length a ≡ n) where
-  pub spare-set : (x : ℕ) → m < n → drop m a ≡ replicate (n - m) 0 → drop (m + 1) (set a m x) ≡ replicate (n - (m + 1)) 0
-  spare-set x h e =
-      let k : n - m ≡ suc (n - (m + 1)) = omega arith in
-      drop-set-lt (m + 1) a m x (omega arith) ∙ sym (drop-drop 1 m a) ∙ ap (λ (l : List ℕ). drop 1 l) (e ∙ ap (λ (i : ℕ). replicate i 0) k)
+pub front-none : (n : ℕ) (xs : List ℕ) → xs ≡ replicate n 0 → Front n 0 xs
+front-none n xs e = let z : n - 0 ≡ n = omega arith in record { long = ap length e ∙ length-replicate n 0; spare = rw z e }
 
-  pub is-padded : m ≤ n → drop m a ≡ replicate (n - m) 0 → a ≡ padded n (take m a)
-  unfolding padded
-  is-padded h e =
-      let k : length (take m a) ≡ m = length-take-le m a (omega arith) in
-      sym (take-append-drop m a) ∙ ap (λ (l : List ℕ). take m a ++ l) (e ∙ ap (λ (i : ℕ). replicate (n - i) 0) (sym k))
+pub front-set : {n k : ℕ} {xs : List ℕ} → Front n k xs → (x : ℕ) → k < n → Front n (k + 1) (set xs k x)
+front-set {n} {k} {xs} f x h =
+    let i : n - k ≡ suc (n - (k + 1)) = omega arith in
+    record {
+      long = length-set xs k x ∙ f .long;
+      spare = drop-set-lt (k + 1) xs k x (omega arith) ∙ sym (drop-drop 1 k xs)
+          ∙ ap (λ (l : List ℕ). drop 1 l) (f .spare ∙ ap (λ (i : ℕ). replicate i 0) i);
+    }
 
--- the is-padded part grows by what is stored
-pub take-set : {A : Type 0} (a : List A) (m : ℕ) (x : A) → m < length a → take (m + 1) (set a m x) ≡ take m a ++ (x ∷ [])
-take-set a m x h = rw add-one (take-suc-set a m x h)
+-- the array is the padded row of what it holds
+pub is-padded : {n k : ℕ} {xs : List ℕ} → Front n k xs → k ≤ n → padded n (values (λ i. getD xs i 0) 0 k) ≡ xs
+unfolding padded
+is-padded {n} {k} {xs} f h =
+    let l : length (take k xs) ≡ k = length-take-le k xs (omega (arith, f .long)) in
+    rw (values-take xs k (omega (arith, f .long)), l, ← f .spare) (take-append-drop k xs)
+
+-- .. and so is one part of each thing that is held in several arrays
+pub is-column : {A : Type 0} {n k : ℕ} {xs : List ℕ} → Front n k xs → k ≤ n → (part : A → ℕ) (f : ℕ → A) →
+    ((i : ℕ) → part (f i) ≡ getD xs i 0) → padded n (map part (values f 0 k)) ≡ xs
+is-column {n = n} {k} {xs} front h part f is =
+    ap (padded n) (map-values part f 0 k ∙ values-same (λ i. part (f i)) (λ i. getD xs i 0) 0 k (λ i a b. is i)) ∙ is-padded front h
+
+-- a row with one entry more
+pub row-set : (xs : List ℕ) (k x : ℕ) → k < length xs →
+    values (λ i. getD (set xs k x) i 0) 0 (k + 1) ≡ values (λ i. getD xs i 0) 0 k ++ (x ∷ [])
+row-set xs k x h =
+    let g = values-same (λ i. getD (set xs k x) i 0) (λ i. getD xs i 0) 0 k (λ i a b. getD-set-other xs k i x 0 (λ e. omega arith)) in
+    values-more (λ i. getD (set xs k x) i 0) k ∙ rw (g, getD-set-same xs k x 0 h)
+
+-- arrays that are filled from the front: m durations and l edges
+pub record Filled (m l : ℕ) (a : Arrays) : Type 0 where
+  pub durations : Front 256 m (a .durations)
+  pub from : Front 1024 l (a .from)
+  pub to : Front 1024 l (a .to)
+  pub counts : Front 1024 l (a .counts)
+
+-- they are the arrays of the job that they hold
+pub arrays-back : (p : Platform) {m l : ℕ} {a : Arrays} → Filled m l a → m ≤ 256 → l ≤ 1024 → arraysOf (heldJob p m l a) ≡ a
+unfolding arraysOf heldJob edgeHeld
+arrays-back p {m} {l} {a} f few few′ =
+    rw (
+      is-padded (f .durations) few,
+      is-column (f .from) few′ (λ (e : Edge). e .from) (edgeHeld (a .from) (a .to) (a .counts)) (λ i. refl),
+      is-column (f .to) few′ (λ (e : Edge). e .to) (edgeHeld (a .from) (a .to) (a .counts)) (λ i. refl),
+      is-column (f .counts) few′ (λ (e : Edge). e .count) (edgeHeld (a .from) (a .to) (a .counts)) (λ i. refl),
+    )

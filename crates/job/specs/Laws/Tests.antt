@@ -10,7 +10,8 @@ use Rattle.base.specs.Laws.Tests.{and-true}
 use Rattle.job.specs.Job.{Edge}
 use Rattle.job.specs.Record.{platformInRange, durationInRange, countInRange, joins, rises}
 
-pub platform-facts : (p : Platform) → platformInRange p ≡ true → (1 ≤ p .processors) × (p .processors ≤ 16) × (p .topology ≤ 2) × (p .unit ≤ 100)
+pub platform-facts : (p : Platform) → platformInRange p ≡ true →
+    (1 ≤ p .processors) × (p .processors ≤ 16) × (p .topology ≤ 2) × (p .unit ≤ 100)
 unfolding platformInRange
 platform-facts p e =
     let a = and-true (leb 1 (p .processors) && leb (p .processors) 16 && leb (p .topology) 2) (leb (p .unit) 100) e in
@@ -34,6 +35,7 @@ pub rises-facts : (a b : Edge) → rises a b ≡ true → (a .from < b .from) �
 unfolding rises
 rises-facts a b h = go (ltb (a .from) (b .from)) refl h
   where
-    go : (t : Bool) → ltb (a .from) (b .from) ≡ t → (t || (eqb (a .from) (b .from) && ltb (a .to) (b .to))) ≡ true → (a .from < b .from) ⊎ ((a .from ≡ b .from) × (a .to < b .to))
+    go : (t : Bool) → ltb (a .from) (b .from) ≡ t → (t || (eqb (a .from) (b .from) && ltb (a .to) (b .to))) ≡ true →
+        (a .from < b .from) ⊎ ((a .from ≡ b .from) × (a .to < b .to))
     go true e h = inl (ltb-true _ _ e)
     go false e h = let s = and-true (eqb (a .from) (b .from)) (ltb (a .to) (b .to)) h in inr (eqb-true _ _ (s .0), ltb-true _ _ (s .1))

@@ -11,9 +11,10 @@ use lib.Dec.{ltb}
 use lib.ListN.{length, drop}
 use Rattle.base.specs.Choice.{pick}
 use Rattle.job.specs.Job.{Job}
-use Rattle.job.specs.Record.{Kind, rack, step, link, end, kindOf, bodyLength, stands, full, inRange, endsRight, inOrder, added}
-use Rattle.job.specs.Read.{Answer, accepted, refused, after, judged, records}
-use Rattle.job.specs.Cause.{Cause, Untroubled, cut, unknown, misplaced, out-of-range, too-many, bad-ends, not-above, bytes-after}
+use Rattle.job.specs.Record.{Kind, rack, step, link, end, kindOf, bodyLength, stands, full, inRange, misfit, added}
+use Rattle.job.specs.Read.{Answer, accepted, refused, refusedOr, after, judged, records}
+use Rattle.job.specs.Cause.{Cause, Untroubled, cut, unknown, misplaced, out-of-range, too-many, bytes-after}
+use Rattle.job.specs.Laws.Judged.{misfit-cause}
 
 -- the answer to a record: refused with its cause, left to what follows the body, or the job accepted at the end record
 pub data Turn (rest : List ℕ) (j : Job) (more : ℕ → Job → Answer) : Option Kind → Answer → Type 0 where
@@ -33,19 +34,19 @@ fitted end (b ∷ rest) j more f = halts (bytes-after refl)
 pub turn : (o : Option Kind) (rest : List ℕ) (j : Job) (more : ℕ → Job → Answer) → Turn rest j more o (judged o rest j more)
 unfolding judged
 turn none rest j more = halts unknown
-turn (some k) rest j more = go (stands j k) (full j k) (ltb (length rest) (bodyLength k)) (inRange k rest) (endsRight j k rest) (inOrder j k rest) refl refl refl refl refl refl
+turn (some k) rest j more = go (stands j k) (full j k) (ltb (length rest) (bodyLength k)) (inRange k rest) (misfit j k rest)
+    refl refl refl refl refl
   where
-    go : (s f l r e o : Bool) → stands j k ≡ s → full j k ≡ f → ltb (length rest) (bodyLength k) ≡ l → inRange k rest ≡ r → endsRight j k rest ≡ e → inOrder j k rest ≡ o →
-        Turn rest j more (some k) (pick (not s) (refused 3) (pick f (refused 5) (pick l (refused 1)
-        (pick (not r) (refused 4) (pick (not e) (refused 6) (pick (not o) (refused 7) (after k rest j more)))))))
-    go false f l r e o hs hf hl hr he ho = halts (misplaced hs)
-    go true true l r e o hs hf hl hr he ho = halts (too-many hf)
-    go true false true r e o hs hf hl hr he ho = halts (cut (ltb-true _ _ hl))
-    go true false false false e o hs hf hl hr he ho = halts (out-of-range hr)
-    go true false false true false o hs hf hl hr he ho = halts (bad-ends he)
-    go true false false true true false hs hf hl hr he ho = halts (not-above ho)
-    go true false false true true true hs hf hl hr he ho =
-        fitted k rest j more (record { placed = hs; room = hf; whole = ltb-false _ _ hl; ranges = hr; ends = he; order = ho })
+    go : (s f l r : Bool) (n : ℕ) → stands j k ≡ s → full j k ≡ f → ltb (length rest) (bodyLength k) ≡ l → inRange k rest ≡ r →
+        misfit j k rest ≡ n → Turn rest j more (some k) (pick (not s) (refused 3) (pick f (refused 5) (pick l (refused 1)
+        (pick (not r) (refused 4) (refusedOr n (after k rest j more))))))
+    go false f l r n hs hf hl hr hn = halts (misplaced hs)
+    go true true l r n hs hf hl hr hn = halts (too-many hf)
+    go true false true r n hs hf hl hr hn = halts (cut (ltb-true _ _ hl))
+    go true false false false n hs hf hl hr hn = halts (out-of-range hr)
+    go true false false true (suc n) hs hf hl hr hn = halts (misfit-cause j k rest n hn)
+    go true false false true zero hs hf hl hr hn =
+        fitted k rest j more (record { placed = hs; room = hf; whole = ltb-false _ _ hl; ranges = hr; fits = hn })
 
 -- the answer to the bytes that are left, after the job so far
 pub data Reads : List ℕ → Job → Answer → Type 0 where

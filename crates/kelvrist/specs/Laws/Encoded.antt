@@ -27,7 +27,9 @@ module _ (processor start : ℕ → ℕ) where
   -- and m tasks five times as many
   pub plan-size : (m : ℕ) → length (planBytes m processor start) ≡ 5 * m
   unfolding planBytes
-  plan-size m = flat-size (λ T. taskBytes (processor T) (start T)) (λ T. task-size (processor T) (start T)) (upto m) ∙ ap (λ (n : ℕ). 5 * n) (length-upto m)
+  plan-size m =
+      flat-size (λ T. taskBytes (processor T) (start T)) 5 (λ T. task-size (processor T) (start T)) (upto m)
+      ∙ ap (λ (n : ℕ). 5 * n) (length-upto m)
 
   -- no task yet
   pub put-none : (plan : List ℕ) → plan ≡ sets plan 0 (planBytes 0 processor start)
@@ -40,7 +42,7 @@ module _ (processor start : ℕ → ℕ) where
   unfolding planBytes
   put-more plan plan′ plan″ t e h =
       rw (upto-values (t + 1))
-      (store-more (λ T. taskBytes (processor T) (start T)) (λ T. task-size (processor T) (start T)) (λ i. i) plan plan′ plan″ 0 t
+      (store-more (λ T. taskBytes (processor T) (start T)) 5 (λ T. task-size (processor T) (start T)) (λ i. i) plan plan′ plan″ 0 t
       (rw (upto-values t) at e) (rw (zero-add (5 * t)) h))
 
   -- all of them

@@ -18,7 +18,7 @@ use Rattle.base.specs.Laws.Put.{put-then}
 use Rattle.job.specs.declared.Reading.{Reading}
 use Rattle.job.specs.Job.{Job}
 use Rattle.job.specs.Read.{accepted, readJob, readingOf}
-use Rattle.job.specs.Accepted.{Accepted, accepted-job, counted, arrays}
+use Rattle.job.specs.Accepted.{Accepted, accepted-job, counted, laid-out}
 use Rattle.etf.specs.Instance.{Instance, tasks, duration}
 use Rattle.etf.specs.Schedule.{end}
 use Rattle.etf.specs.Rule.{planned}
@@ -97,12 +97,12 @@ module _ (file : List ℕ) {x : Reading} {m l : ℕ} (e : x ≡ readingOf (readJ
   pub few-edges : l ≤ 1024
   few-edges = omega (arith, found .3, sound .few-edges)
 
-  pub durations-size : length (x .durations) ≡ 256
-  durations-size = ap (λ (y : Reading). length (y .durations)) reading-is ∙ arrays job sound .durations-length
+  pub durations-size : length (x .arrays .durations) ≡ 256
+  durations-size = ap (λ (y : Reading). length (y .arrays .durations)) reading-is ∙ laid-out job sound .durations-length
 
-  duration-at : (T : ℕ) → getD (x .durations) T 0 ≡ duration I T
+  duration-at : (T : ℕ) → getD (x .arrays .durations) T 0 ≡ duration I T
   unfolding duration instance
-  duration-at T = ap (λ (y : Reading). getD (y .durations) T 0) reading-is ∙ arrays job sound .duration-at T
+  duration-at T = ap (λ (y : Reading). getD (y .arrays .durations) T 0) reading-is ∙ laid-out job sound .duration-at T
 
   header-is : header (x .platform .processors) m l ≡ header (I .processors) (tasks I) (length (I .edges))
   unfolding instance readingOf
@@ -125,7 +125,7 @@ module _ (file : List ℕ) {x : Reading} {m l : ℕ} (e : x ≡ readingOf (readJ
     processor-at T k = ap (λ (y : CoverCall). getD (y .processors) T 0) cover-is ∙ filled-at (processorOf I) (tasks I) p₀ T k
 
     -- a finish has 32 bits
-    pub finish-fits : (T : ℕ) → T < m → getD s T 0 + getD (x .durations) T 0 < 4294967296
+    pub finish-fits : (T : ℕ) → T < m → getD s T 0 + getD (x .arrays .durations) T 0 < 4294967296
     unfolding startOf instance
     finish-fits T k =
         let W = well-formed job sound in
@@ -133,16 +133,16 @@ module _ (file : List ℕ) {x : Reading} {m l : ℕ} (e : x ≡ readingOf (readJ
         omega (arith, start-at T b, duration-at T, by-end I W T b, no-end-passes job sound, ap (duration I) (home I W T b .1))
 
     -- the greatest finish is the plan's end
-    end-is : most m (λ T. getD s T 0 + getD (x .durations) T 0) ≡ end I (planned I)
+    end-is : most m (λ T. getD s T 0 + getD (x .arrays .durations) T 0) ≡ end I (planned I)
     unfolding startOf instance
     end-is =
         let W = well-formed job sound in
-        most-same m (λ T. getD s T 0 + getD (x .durations) T 0) (λ T. startOf I T + duration I T)
+        most-same m (λ T. getD s T 0 + getD (x .arrays .durations) T 0) (λ T. startOf I T + duration I T)
         (λ T k. let b : T < length (job .tasks) = omega (arith, found .2) in omega (arith, start-at T b, duration-at T))
         ∙ (ap (λ (n : ℕ). most n (λ T. startOf I T + duration I T)) (sym (found .2))
         ∙ (sym (greatest-upto (λ T. startOf I T + duration I T) (length (job .tasks))) ∙ end-by-task I W))
 
-    lines-are : taskLines m (λ T. getD p T 0) (λ T. getD s T 0) (λ T. getD (x .durations) T 0) ≡ taskLines (tasks I) (processorOf I) (startOf I) (duration I)
+    lines-are : taskLines m (λ T. getD p T 0) (λ T. getD s T 0) (λ T. getD (x .arrays .durations) T 0) ≡ taskLines (tasks I) (processorOf I) (startOf I) (duration I)
     unfolding instance
     lines-are = lines-same _ _ _ _ _ _ (sym (found .2)) processor-at start-at (λ T k. duration-at T)
 
@@ -156,9 +156,9 @@ module _ (file : List ℕ) {x : Reading} {m l : ℕ} (e : x ≡ readingOf (readJ
 
     pub plan-listed : {out o₁ o₂ o₃ : List ℕ} {i j k : ℕ} (E C D : ℕ)
         → Put out o₁ 0 i (header (x .platform .processors) m l)
-        → Put o₁ o₂ i j (taskLines m (λ T. getD p T 0) (λ T. getD s T 0) (λ T. getD (x .durations) T 0))
+        → Put o₁ o₂ i j (taskLines m (λ T. getD p T 0) (λ T. getD s T 0) (λ T. getD (x .arrays .durations) T 0))
         → Put o₂ o₃ j k (figures E C D)
-        → E ≡ most m (λ T. getD s T 0 + getD (x .durations) T 0) → C ≡ coverIn q → D ≡ dearestIn q → k ≤ length out → listed k o₃ ≡ listingCall file out
+        → E ≡ most m (λ T. getD s T 0 + getD (x .arrays .durations) T 0) → C ≡ coverIn q → D ≡ dearestIn q → k ≤ length out → listed k o₃ ≡ listingCall file out
     unfolding listingCall listing listingFor planListing
     plan-listed {out = out} E C D first second third e-is c-is d-is fits =
         put-front (put-then first (put-then second third)) fits

@@ -18,7 +18,7 @@ use Rattle.base.specs.Laws.Values.{values-snoc}
 use Rattle.base.specs.Laws.Most.{most-ge, most-at, most-same, greatest-upto}
 use Rattle.job.specs.declared.Platform.{Platform}
 use Rattle.job.specs.Job.{Edge}
-use Rattle.job.specs.Write.{edgeHeld, heldJob}
+use Rattle.job.specs.Write.{edgeHeld, heldJob, gathered}
 use Rattle.etf.specs.Instance.{Instance, tasks, into}
 use Rattle.etf.specs.OfJob.{instance}
 use Rattle.etf.specs.Dearest.{greatestCost, dearestTo, dearest}
@@ -88,7 +88,7 @@ table-greatest n cost costs h =
 module _ {platform : Platform} {m l : ℕ} {durations from to counts : List ℕ} {costs : List (List ℕ)} (A : InArrays platform m l durations from to counts costs) where
   -- the job's instance
   abbrev I : Instance
-  I = instance (heldJob platform m l durations from to counts)
+  I = instance (heldJob platform m l (gathered durations from to counts))
 
   -- the greatest cost of the job stands in the table, and is small
   greatest-is : greatestIn costs (platform .processors) ≡ greatestCost I

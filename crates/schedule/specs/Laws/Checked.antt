@@ -9,7 +9,7 @@ use lib.Dec.{eqb}
 use lib.ListN.{length, getD}
 use Rattle.base.specs.Choice.{pick}
 use Rattle.job.specs.declared.Platform.{Platform}
-use Rattle.job.specs.Write.{heldJob}
+use Rattle.job.specs.Write.{heldJob, gathered}
 use Rattle.etf.specs.Instance.{Instance, tasks}
 use Rattle.etf.specs.Schedule.{Placement}
 use Rattle.etf.specs.OfJob.{instance}
@@ -21,7 +21,7 @@ use Rattle.schedule.specs.Laws.Answer.{planOf, InPlace, each-in-place, n
 
 module _ {platform : Platform} {m l : ℕ} {durations from to counts : List ℕ} {costs : List (List ℕ)} (A : InArrays platform m l durations from to counts costs) where
   abbrev I : Instance
-  I = instance (heldJob platform m l durations from to counts)
+  I = instance (heldJob platform m l (gathered durations from to counts))
 
   -- the ends of edge k are tasks, and its messages are few
   pub edge-fits : (k : ℕ) → k < l → (getD from k 0 < m) × (getD to k 0 < m) × (getD counts k 0 ≤ 1000)

@@ -105,7 +105,7 @@ module _ {file : List ℕ} {x : Reading} {m l : ℕ} (K : Read file x m l) where
   tasks-is = K .tasks-are
 
   abbrev H : Instance
-  H = instance (heldJob (x .platform) m l (x .durations) (x .from) (x .to) (x .counts))
+  H = instance (heldJob (x .platform) m l (x .arrays))
 
   same : H ≡ I
   same = ap instance (K .held)

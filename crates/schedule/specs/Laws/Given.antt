@@ -12,7 +12,7 @@ use Rattle.base.specs.Laws.Values.{length-values, value-at}
 use Rattle.job.specs.declared.Platform.{Platform}
 use Rattle.job.specs.Job.{Edge, Job}
 use Rattle.job.specs.Accepted.{Before, edgeAt}
-use Rattle.job.specs.Write.{edgeHeld, heldJob}
+use Rattle.job.specs.Write.{edgeHeld, heldJob, gathered}
 use Rattle.etf.specs.Instance.{Instance, tasks, duration}
 use Rattle.etf.specs.Topology.{cost}
 use Rattle.etf.specs.OfJob.{instance}
@@ -28,7 +28,7 @@ message-most w x c e h k = let q : w ≤ 1000 = omega arith in mul-le-mul q k
 module _ {platform : Platform} {m l : ℕ} {durations from to counts : List ℕ} {costs : List (List ℕ)} (A : InArrays platform m l durations from to counts costs) where
   -- the job, and its instance
   abbrev J : Job
-  J = heldJob platform m l durations from to counts
+  J = heldJob platform m l (gathered durations from to counts)
 
   abbrev I : Instance
   I = instance J

@@ -11,7 +11,7 @@ use lib.ListN.{length, getD, set, length-set}
 use Rattle.base.specs.Lists.{values, _∈_, here}
 use Rattle.base.specs.Rows.{sum, one-if}
 use Rattle.base.specs.Laws.Tests.{not-both, fails, le-or-lt}
-use Rattle.job.specs.Write.{heldJob}
+use Rattle.job.specs.Write.{heldJob, gathered}
 use Rattle.job.specs.declared.Platform.{Platform}
 use Rattle.etf.specs.Instance.{Instance, tasks, duration}
 use Rattle.etf.specs.Schedule.{Placement, placed, finish, arrival}
@@ -46,9 +46,9 @@ pub record Setting (I : Instance) (m n l : ℕ) (durations from to counts : List
   pub arrivals : (k T P : ℕ) → Opened I (run I k begin .placements) T → P < I .processors → arrival I (run I k begin .placements) T P ≤ 460800000
 
 pub setting : {platform : Platform} {m l : ℕ} {durations from to counts : List ℕ} {costs : List (List ℕ)} → InArrays platform m l durations from to counts costs
-    → {n : ℕ} → platform .processors ≡ n → Setting (instance (heldJob platform m l durations from to counts)) m n l durations from to counts costs
+    → {n : ℕ} → platform .processors ≡ n → Setting (instance (heldJob platform m l (gathered durations from to counts))) m n l durations from to counts costs
 setting {platform} {m} {l} {durations} {from} {to} {counts} A e =
-    let j = heldJob platform m l durations from to counts in
+    let j = heldJob platform m l (gathered durations from to counts) in
     let a = A .accepted in
     record {
       arrays = given A;

@@ -22,7 +22,7 @@ use Rattle.base.specs.Laws.Most.{most-ge}
 use Rattle.job.specs.declared.Platform.{Platform}
 use Rattle.job.specs.Job.{Edge, Job}
 use Rattle.job.specs.Accepted.{Before}
-use Rattle.job.specs.Write.{edgeHeld, heldJob}
+use Rattle.job.specs.Write.{edgeHeld, heldJob, gathered}
 use Rattle.etf.specs.Instance.{Instance, tasks, duration, into, messageTime}
 use Rattle.etf.specs.Schedule.{Placement, placementOf, finish, messageTimeTo, reach}
 use Rattle.etf.specs.Rule.{planned}
@@ -66,7 +66,7 @@ pick-over false x h = absurd (omega arith)
 module _ {platform : Platform} {m l : ℕ} {durations from to counts : List ℕ} {costs : List (List ℕ)} (A : InArrays platform m l durations from to counts costs) where
   -- the job, and its instance
   abbrev J : Job
-  J = heldJob platform m l durations from to counts
+  J = heldJob platform m l (gathered durations from to counts)
 
   abbrev I : Instance
   I = instance J

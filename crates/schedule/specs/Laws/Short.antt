@@ -15,7 +15,7 @@ use Rattle.base.specs.Laws.Tests.{not-both, fails, le-or-lt}
 use Rattle.base.specs.Laws.Lists.{any-of, filter-in, upto-in, Best, nothing, found, best-is, by-least}
 use Rattle.job.specs.declared.Platform.{Platform}
 use Rattle.job.specs.Job.{Job}
-use Rattle.job.specs.Write.{heldJob}
+use Rattle.job.specs.Write.{heldJob, gathered}
 use Rattle.etf.specs.Instance.{Instance, WellFormed, tasks, duration}
 use Rattle.etf.specs.Schedule.{Placement, placementOf, finish}
 use Rattle.etf.specs.Rule.{planned}
@@ -90,10 +90,10 @@ module _ (I : Instance) (ps : List Placement) where
 -- ---- the planner's schedule in arrays
 
 module _ {platform : Platform} {m l : ℕ} {durations from to counts : List ℕ} {costs : List (List ℕ)} (A : InArrays platform m l durations from to counts costs)
-    {starts processors : List ℕ} (H : HoldsPlan (instance (heldJob platform m l durations from to counts)) m starts processors) where
+    {starts processors : List ℕ} (H : HoldsPlan (instance (heldJob platform m l (gathered durations from to counts))) m starts processors) where
   -- the job, its instance and the planner's schedule
   abbrev J : Job
-  J = heldJob platform m l durations from to counts
+  J = heldJob platform m l (gathered durations from to counts)
 
   abbrev I : Instance
   I = instance J

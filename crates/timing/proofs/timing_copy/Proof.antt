@@ -18,7 +18,7 @@ module _ (x r : Reading) (e : x ≡ r) (out : List ℕ) where
   refuses k n h g = rw (← e) (record { answer = g ∙ rw h; output = rw h })
 
   writes : (m l n : ℕ) (w : Written) (after : List ℕ) → x .verdict ≡ Counts m l → n ≡ writtenNumber w →
-      WrittenAs w after m l (heldJob (x .platform) m l (x .durations) (x .from) (x .to) (x .counts)) out → Copied n after r out
+      WrittenAs w after m l (heldJob (x .platform) m l (x .arrays)) out → Copied n after r out
   unfolding copyAnswer copyOut heldIn
   writes m l n w after h g k =
       rw (← e) (record { answer = g ∙ ap writtenNumber (k .answer) ∙ rw h; output = k .output ∙ rw h })
@@ -54,7 +54,11 @@ same-length : tie.Need-same-length
 same-length c = search needs
 
 returns-2 : tie.Need-returns-2
-returns-2 c = writes _ _ (c .before .before .before .before .before .before .before .before .before .before .before .before .before .before .read .ensures) _ _ _ _ _ _ (c .before .before .before .before .before .before .before .before .before .before .before .before .verdict .given .1) (c .written-number .ensures) (c .before .before .before .write .ensures)
+returns-2 c =
+    let at-write = c .before .before .before in
+    let at-verdict = at-write .before .before .before in
+    writes _ _ (at-verdict .before .before .read .ensures) _ _ _ _ _ _ (at-verdict .verdict .given .1) (c .written-number .ensures)
+    (at-write .write .ensures)
 
 pub timing-copy-spec : {M : Type 1} → statement M
 timing-copy-spec =

@@ -1,27 +1,67 @@
--- `emit::job_trouble`: the reader meets the job's file record by record; each trouble is what it answers there.
-use mathlib.Core.Path.{_≡_, sym, _∙_}
-use Prim.Native.Nat.{ℕ}
+-- `emit::job_trouble`: each return is how the reader meets the job's file, in the rack, where a step is due, in the steps, in the links.
+use mathlib.Core.Path.{_≡_, refl, ap, sym, _∙_}
+use Prim.Native.Nat.{ℕ, zero, suc, _^_, _≤_, _<_}
 use native.Mathlib.Omega.{arith}
-use Rattle.job.specs.Job.{Job}
-use Rattle.job.specs.Read.{refused, readJob}
-use Rattle.job.specs.Write.{fileOf}
-use Rattle.job.specs.Pass.{JobJudged}
-use Rattle.job.specs.Laws.Met.{bad-rack, no-step, bad-step, last}
 use borrow.Author.Needs.{needs}
+use lib.ListN.{getD}
+use Rattle.base.specs.Choice.{pick}
+use Rattle.base.specs.Lists.{values}
+use Rattle.base.specs.Laws.Values.{length-values, each-value}
+use Rattle.job.specs.declared.Arrays.{Arrays}
+use Rattle.job.specs.declared.Platform.{Platform}
+use Rattle.job.specs.Record.{empty}
+use Rattle.job.specs.Read.{accepted, refusedOr}
+use Rattle.job.specs.Write.{heldJob}
+use Rattle.job.specs.Pass.{platformTrouble, jobTrouble, StepsJudged, LinksJudged, Met}
+use Rattle.job.specs.Laws.Judged.{first-none}
+use Rattle.job.specs.Laws.Met.{met, met-rack, met-none, met-step, held-writable}
 use Rattle.job.proofs.emit.job_trouble.Statement.{statement}
 use Rattle.job.proofs.emit.job_trouble.Tie as tie
 
-bad : (j : Job) (r : ℕ) → (r ≡ 0 → ⊥) → readJob (fileOf j) ≡ refused r → JobJudged j r
-bad j r n e = record { refuses = λ z. e; accepts = λ z. absurd (n z) }
+some-task : (f : ℕ → ℕ) (m : ℕ) → (m ≡ 0 → ⊥) → _≡_ {A = ℕ} (pick (empty (values f 0 m)) 3 0) 0
+unfolding values
+some-task f zero n = absurd (n refl)
+some-task f (suc m) n = refl
+
+module _ (p : Platform) (m l : ℕ) (a : Arrays) where
+  bad-rack : (r : ℕ) → r ≡ platformTrouble p → (r ≡ 0 → ⊥) → Met (heldJob p m l a) r
+  unfolding heldJob
+  bad-rack r e n = met-rack (heldJob p m l a) r e n
+
+  module _ (t : ℕ) (rack-is : t ≡ platformTrouble p) (z : t ≡ 0) where
+    no-step : m ≡ 0 → Met (heldJob p m l a) 3
+    unfolding heldJob values
+    no-step h = met-none (heldJob p m l a) (sym rack-is ∙ z) (rw h)
+
+    module _ (few : m ≤ 256) (s : ℕ) (steps : StepsJudged (a .durations) m s) where
+      bad-step : (s ≡ 0 → ⊥) → Met (heldJob p m l a) s
+      unfolding heldJob
+      bad-step n =
+          met-step (heldJob p m l a) (sym rack-is ∙ z)
+          (each-value (λ t. getD (a .durations) t 0) (λ d. d < 2 ^ 32) 0 (omega arith) (λ t. (steps .fits t) .fits) 0 m)
+          (omega (arith, length-values (λ t. getD (a .durations) t 0) 0 m)) s (steps .first) n
+
+      last : s ≡ 0 → (m ≡ 0 → ⊥) → l ≤ 1024 → (r : ℕ) → LinksJudged (a .from) (a .to) (a .counts) m l r → Met (heldJob p m l a) r
+      unfolding heldJob jobTrouble
+      last none n few′ r links =
+          let is : jobTrouble (heldJob p m l a) ≡ r =
+          first-none _ _ (sym rack-is ∙ z) ∙ first-none _ _ (some-task (λ t. getD (a .durations) t 0) m n)
+          ∙ first-none _ _ (sym (steps .first) ∙ none)
+          ∙ rw (length-values (λ t. getD (a .durations) t 0) 0 m) (sym (links .first)) in
+          met (heldJob p m l a) (held-writable p m l a (few, few′) (record {
+            duration-fits = λ t. (steps .fits t) .fits;
+            to-fits = λ i. (links .to-fits i) .fits;
+            count-fits = λ i. (links .count-fits i) .fits;
+          })) ∙ ap (λ (n : ℕ). refusedOr n (accepted (heldJob p m l a))) is
 
 platform-trouble-requires : tie.Need-platform-trouble-requires
 platform-trouble-requires c κs = search needs
 
 returns : tie.Need-returns
-returns c = bad _ _ (c .if1 .taken) (bad-rack _ _ _ _ _ _ _ _ (c .before .platform-trouble .ensures) (c .if1 .taken))
+returns c = bad-rack _ _ _ _ _ (c .before .platform-trouble .ensures) (c .if1 .taken)
 
 returns-2 : tie.Need-returns-2
-returns-2 c = bad _ 3 (λ z. omega arith) (no-step _ _ _ _ _ _ _ (sym (c .before .before .platform-trouble .ensures) ∙ c .before .if1 .left) (c .if2 .taken))
+returns-2 c = no-step _ _ _ _ _ (c .before .before .platform-trouble .ensures) (c .before .if1 .left) (c .if2 .taken)
 
 steps-trouble-requires : tie.Need-steps-trouble-requires
 steps-trouble-requires c κs = search needs
@@ -31,7 +71,8 @@ returns-3 c =
     let at-if1 = c .before .before .before .before in
     let at-platform-trouble = at-if1 .before in
     let at-start = at-platform-trouble .before in
-    bad _ _ (c .if3 .taken) (bad-step _ _ _ _ _ _ _ (sym (at-platform-trouble .platform-trouble .ensures) ∙ at-if1 .if1 .left) (at-start .pre .0) (λ t. (c .before .steps-trouble .ensures .fits t) .fits) _ (c .before .steps-trouble .ensures .first) (c .if3 .taken))
+    bad-step _ _ _ _ _ (at-platform-trouble .platform-trouble .ensures) (at-if1 .if1 .left) (at-start .pre .0) _
+    (c .before .steps-trouble .ensures) (c .if3 .taken)
 
 links-trouble-requires : tie.Need-links-trouble-requires
 links-trouble-requires c κs = search needs
@@ -44,7 +85,8 @@ returns-4 c =
     let at-if1 = at-if2 .before in
     let at-platform-trouble = at-if1 .before in
     let at-start = at-platform-trouble .before in
-    last _ _ _ _ _ _ _ (sym (at-platform-trouble .platform-trouble .ensures) ∙ at-if1 .if1 .left) (at-start .pre .0) (λ t. (at-steps-trouble .steps-trouble .ensures .fits t) .fits) (sym (at-steps-trouble .steps-trouble .ensures .first) ∙ at-if3 .if3 .left) (at-if2 .if2 .left) (at-start .pre .1) (λ i. (c .links-trouble .ensures .to-fits i) .fits) (λ i. (c .links-trouble .ensures .count-fits i) .fits) _ (c .links-trouble .ensures .first)
+    last _ _ _ _ _ (at-platform-trouble .platform-trouble .ensures) (at-if1 .if1 .left) (at-start .pre .0) _
+    (at-steps-trouble .steps-trouble .ensures) (at-if3 .if3 .left) (at-if2 .if2 .left) (at-start .pre .1) _ (c .links-trouble .ensures)
 
 pub job-trouble-spec : {M : Type 1} → statement M
 job-trouble-spec =

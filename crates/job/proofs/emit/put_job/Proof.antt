@@ -1,92 +1,106 @@
--- `emit::put_job`: the stores of the parts follow on each other, and so are the stores of the file.
-use mathlib.Core.Path.{_≡_, ap, sym, _∙_}
-use mathlib.Core.List.{List, [], _∷_, _++_, flatMap}
-use Prim.Native.Nat.{ℕ, _+_, _*_}
-use lib.ListN.{length, getD, set, length-set}
-use lib.Seq.{sets}
+-- `emit::put_job`: the parts are put one after the other, and so is the file; each has room, as the file has.
+use mathlib.Core.Path.{_≡_, _∙_}
+use mathlib.Core.List.{List, [], _∷_, flatMap}
+use Prim.Native.Nat.{ℕ, _+_, _≤_, _<_}
+use native.Mathlib.Omega.{arith}
 use borrow.Author.Needs.{needs}
+use lib.ListN.{length, getD, set, length-set, length-append}
 use Rattle.base.specs.Lists.{values}
-use Rattle.base.specs.Laws.Values.{length-values}
-use Rattle.base.specs.Laws.Stored.{flat-size, sets-append}
+use Rattle.base.specs.Slices.{Put}
+use Rattle.base.specs.Laws.Put.{put-then, put-byte}
+use Rattle.job.specs.declared.Arrays.{Arrays}
 use Rattle.job.specs.declared.Platform.{Platform}
-use Rattle.job.specs.Job.{Edge}
 use Rattle.job.specs.Write.{rackBytes, stepBytes, linkBytes, fileOf, edgeHeld, heldJob}
-use Rattle.job.specs.Laws.Sizes.{step-size, link-size}
 use Rattle.job.proofs.emit.put_job.Statement.{statement}
 use Rattle.job.proofs.emit.put_job.Tie as tie
 
-module _ (p : Platform) (m l : ℕ) (durations from to counts : List ℕ) where
-  abbrev tasks : List ℕ
-  tasks = values (λ t. getD durations t 0) 0 m
+module _ (p : Platform) (m l : ℕ) (a : Arrays) where
+  abbrev rack : List ℕ
+  rack = 1 ∷ p .processors ∷ p .topology ∷ p .unit ∷ []
 
-  abbrev edges : List Edge
-  edges = values (edgeHeld from to counts) 0 l
+  abbrev steps : List ℕ
+  steps = flatMap stepBytes (values (λ t. getD (a .durations) t 0) 0 m)
 
   abbrev links : List ℕ
-  links = flatMap linkBytes edges ++ (4 ∷ [])
+  links = flatMap linkBytes (values (edgeHeld (a .from) (a .to) (a .counts)) 0 l)
 
-  module _ (out out1 out2 out3 : List ℕ) (rack-put : out1 ≡ sets out 0 (rackBytes p)) (steps-put : out2 ≡ sets out1 4 (flatMap stepBytes tasks))
-      (links-put : out3 ≡ sets out2 (4 + 5 * m) (flatMap linkBytes edges)) where
-    stored : set out3 (4 + 5 * m + 5 * l) 4 ≡ sets out 0 (fileOf (heldJob p m l durations from to counts))
-    unfolding fileOf heldJob rackBytes
-    stored =
-        let s : length (flatMap stepBytes tasks) ≡ 5 * m = flat-size stepBytes step-size tasks ∙ ap (λ (n : ℕ). 5 * n) (length-values (λ t. getD durations t 0) 0 m) in
-        let k : length (flatMap linkBytes edges) ≡ 5 * l = flat-size linkBytes link-size edges ∙ ap (λ (n : ℕ). 5 * n) (length-values (edgeHeld from to counts) 0 l) in
-        let a : sets out1 4 (flatMap stepBytes tasks ++ links) ≡ sets out2 (4 + 5 * m) links =
-        sets-append out1 4 (flatMap stepBytes tasks) links ∙ rw (s, ← steps-put) in
-        let b : sets out2 (4 + 5 * m) links ≡ sets out3 (4 + 5 * m + 5 * l) (4 ∷ []) =
-        sets-append out2 (4 + 5 * m) (flatMap linkBytes edges) (4 ∷ []) ∙ rw (k, ← links-put) in
-        let d : sets out 0 (fileOf (heldJob p m l durations from to counts)) ≡ sets out1 4 (flatMap stepBytes tasks ++ links) =
-        sets-append out 0 (rackBytes p) (flatMap stepBytes tasks ++ links) ∙ rw (← rack-put) in
-        sym (d ∙ a ∙ b)
+  whole : {o o1 o2 o3 : List ℕ} {i j k : ℕ} → Put o o1 0 i rack → Put o1 o2 i j steps → Put o2 o3 j k links →
+      Put o (set o3 k 4) 0 (k + 1) (fileOf (heldJob p m l a))
+  unfolding fileOf heldJob rackBytes
+  whole q r s = put-then q (put-then r (put-byte 4 s))
 
-mul-links : tie.Need-mul-links
-mul-links c = search needs
+  size : length (fileOf (heldJob p m l a)) ≡ 5 + (length steps + length links)
+  unfolding fileOf heldJob rackBytes
+  size = simp length-append (omega arith)
 
-add-links : tie.Need-add-links
-add-links c = search needs
+  rack-room : {n : ℕ} → length (fileOf (heldJob p m l a)) ≤ n → 4 ≤ n
+  rack-room room = omega (arith, size)
 
-mul-end : tie.Need-mul-end
-mul-end c = search needs
+  module _ {o o1 : List ℕ} {i : ℕ} (q : Put o o1 0 i rack) (same : length o1 ≡ length o)
+      (room : length (fileOf (heldJob p m l a)) ≤ length o) where
+    steps-room : i + length steps ≤ length o1
+    steps-room = omega (arith, size, q .past)
 
-add-end : tie.Need-add-end
-add-end c = search needs
+    module _ {o2 : List ℕ} {j : ℕ} (r : Put o1 o2 i j steps) (same′ : length o2 ≡ length o1) where
+      links-room : j + length links ≤ length o2
+      links-room = omega (arith, size, q .past, r .past)
 
-put-rack-requires : tie.Need-put-rack-requires
-put-rack-requires c κs = search needs
+      end-room : {o3 : List ℕ} {k : ℕ} → Put o2 o3 j k links → length o3 ≡ length o2 → k < length o3
+      end-room s same″ = omega (arith, size, q .past, r .past, s .past)
+
+put4-requires : tie.Need-put4-requires
+put4-requires c κs = rack-room _ _ _ _ (c .before .before .pre .1)
 
 put-steps-requires : tie.Need-put-steps-requires
-put-steps-requires c κs = search needs
+put-steps-requires c κs =
+    let at-put4 = c .before .before .before in
+    let at-start = at-put4 .before .before .before in
+    (at-start .pre .0 .0, steps-room _ _ _ _ (at-put4 .put4 .ensures) (at-put4 .put4 .kept .0) (at-start .pre .1))
 
 put-links-requires : tie.Need-put-links-requires
-put-links-requires c κs = search needs
+put-links-requires c κs =
+    let at-put-steps = c .before .before .before in
+    let at-put4 = at-put-steps .before .before .before .before in
+    let at-start = at-put4 .before .before .before in (
+      at-start .pre .0 .1,
+      links-room _ _ _ _ (at-put4 .put4 .ensures) (at-put4 .put4 .kept .0) (at-start .pre .1) (at-put-steps .put-steps .ensures)
+          (at-put-steps .put-steps .kept .1 .1 .0),
+    )
 
 slice-write-out : tie.Need-slice-write-out
-slice-write-out c = search needs
+slice-write-out c =
+    let at-put-links = c .before .before in
+    let at-put-steps = at-put-links .before .before .before .before in
+    let at-put4 = at-put-steps .before .before .before .before in
+    let at-start = at-put4 .before .before .before in
+    end-room _ _ _ _ (at-put4 .put4 .ensures) (at-put4 .put4 .kept .0) (at-start .pre .1) (at-put-steps .put-steps .ensures)
+    (at-put-steps .put-steps .kept .1 .1 .0) (at-put-links .put-links .ensures) (at-put-links .put-links .kept .1 .1 .1 .1 .0)
+
+add-result : tie.Need-add-result
+add-result c = search (needs, slice-write-out c)
 
 same-length : tie.Need-same-length
 same-length c =
-    let at-put-steps = c .before .before .before .before .before .before in
-    let at-put-rack = at-put-steps .before .before .before .before in
-    simp length-set (c .before .before .put-links .kept .1 .1 .1 .1 .0 ∙ at-put-steps .put-steps .kept .1 .1 .0 ∙ at-put-rack .put-rack .kept .1 .0)
+    let at-put-links = c .before .before in
+    let at-put-steps = at-put-links .before .before .before .before in
+    let at-put4 = at-put-steps .before .before .before .before in
+    simp length-set (at-put-links .put-links .kept .1 .1 .1 .1 .0 ∙ at-put-steps .put-steps .kept .1 .1 .0 ∙ at-put4 .put4 .kept .0)
 
 returns : tie.Need-returns
 returns c =
-    let at-put-steps = c .before .before .before .before .before .before in
-    let at-put-rack = at-put-steps .before .before .before .before in
-    stored _ _ _ _ _ _ _ _ _ _ _ (at-put-rack .put-rack .ensures) (at-put-steps .put-steps .ensures) (c .before .before .put-links .ensures)
+    let at-put-links = c .before .before in
+    let at-put-steps = at-put-links .before .before .before .before in
+    let at-put4 = at-put-steps .before .before .before .before in
+    whole _ _ _ _ (at-put4 .put4 .ensures) (at-put-steps .put-steps .ensures) (at-put-links .put-links .ensures)
 
 pub put-job-spec : {M : Type 1} → statement M
 put-job-spec =
     tie.close
     (tie.spec
-    mul-links
-    add-links
-    mul-end
-    add-end
-    put-rack-requires
+    put4-requires
     put-steps-requires
     put-links-requires
     slice-write-out
+    add-result
     same-length
     returns)

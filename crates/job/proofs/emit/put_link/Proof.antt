@@ -1,66 +1,43 @@
--- `emit::put_link`: the stores, one after the other, are the record's bytes.
-use native.Mathlib.Numerals.{towards-suc}
-use lib.ListN.{length-set}
+-- `emit::put_link`: the kind's byte, and the ends and the message count after it.
+use mathlib.Core.List.{List, [], _∷_}
+use Prim.Native.Nat.{ℕ, _+_, _/_, _%_}
+use lib.ListN.{set, length-set}
 use Rattle.base.specs.Number.{bytes}
+use Rattle.base.specs.Slices.{Put}
+use Rattle.base.specs.Laws.Put.{put-none, put-then, put-byte}
 use Rattle.job.specs.Write.{linkBytes}
+use Rattle.job.specs.Pass.{edge}
 use borrow.Author.Needs.{needs}
 use Rattle.job.proofs.emit.put_link.Statement.{statement}
 use Rattle.job.proofs.emit.put_link.Tie as tie
 
+whole : (f t n : ℕ) {l l′ : List ℕ} {at next : ℕ} →
+    Put (set l at 3) l′ (at + 1) next (f ∷ t ∷ n % 256 ∷ n / 256 % 256 ∷ []) → Put l l′ at next (linkBytes (edge f t n))
+unfolding linkBytes bytes
+whole f t n p = put-then (put-byte 3 (put-none _ _)) p
+
 slice-write-out : tie.Need-slice-write-out
 slice-write-out c = search needs
 
-add-out : tie.Need-add-out
-add-out c = search needs
+add-put4 : tie.Need-add-put4
+add-put4 c = search needs
 
-slice-write-out-2 : tie.Need-slice-write-out-2
-slice-write-out-2 c = simp length-set (search needs)
+cast-put4 : tie.Need-cast-put4
+cast-put4 c = search needs
 
-add-out-2 : tie.Need-add-out-2
-add-out-2 c = search needs
+cast-put4-2 : tie.Need-cast-put4-2
+cast-put4-2 c = search needs
 
-slice-write-out-3 : tie.Need-slice-write-out-3
-slice-write-out-3 c = simp length-set (search needs)
-
-cast-out : tie.Need-cast-out
-cast-out c = search needs
-
-add-out-3 : tie.Need-add-out-3
-add-out-3 c = search needs
-
-slice-write-out-4 : tie.Need-slice-write-out-4
-slice-write-out-4 c = simp length-set (search needs)
-
-cast-out-2 : tie.Need-cast-out-2
-cast-out-2 c = search needs
-
-add-out-4 : tie.Need-add-out-4
-add-out-4 c = search needs
-
-slice-write-out-5 : tie.Need-slice-write-out-5
-slice-write-out-5 c = simp length-set (search needs)
+put4-requires : tie.Need-put4-requires
+put4-requires c κs = simp length-set (search needs)
 
 same-length : tie.Need-same-length
-same-length c = search needs
+same-length c = simp length-set at (c .before .before .put4 .kept .0)
 
 returns : tie.Need-returns
-unfolding linkBytes bytes
-returns c = simp towards-suc
+returns c = whole _ _ _ (c .before .before .put4 .ensures)
 
 pub put-link-spec : {M : Type 1} → statement M
 put-link-spec =
     tie.close
-    (tie.spec
-    slice-write-out
-    add-out
-    slice-write-out-2
-    add-out-2
-    slice-write-out-3
-    cast-out
-    add-out-3
-    slice-write-out-4
-    cast-out-2
-    add-out-4
-    slice-write-out-5
-    same-length
-    returns)
+    (tie.spec slice-write-out add-put4 cast-put4 cast-put4-2 put4-requires same-length returns)

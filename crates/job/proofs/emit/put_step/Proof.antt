@@ -1,74 +1,58 @@
--- `emit::put_step`: the stores, one after the other, are the record's bytes.
-use native.Mathlib.Numerals.{towards-suc}
-use lib.ListN.{length-set}
+-- `emit::put_step`: the kind's byte, and the duration's bytes after it.
+use mathlib.Core.List.{List, [], _∷_}
+use Prim.Native.Nat.{ℕ, _+_, _/_, _%_}
+use lib.ListN.{set, length-set}
 use Rattle.base.specs.Number.{bytes}
+use Rattle.base.specs.Slices.{Put}
+use Rattle.base.specs.Laws.Put.{put-none, put-then, put-byte}
 use Rattle.job.specs.Write.{stepBytes}
 use borrow.Author.Needs.{needs}
 use Rattle.job.proofs.emit.put_step.Statement.{statement}
 use Rattle.job.proofs.emit.put_step.Tie as tie
 
+whole : (d : ℕ) {l l′ : List ℕ} {at next : ℕ} →
+    Put (set l at 2) l′ (at + 1) next (d % 256 ∷ d / 256 % 256 ∷ d / 256 / 256 % 256 ∷ d / 256 / 256 / 256 % 256 ∷ []) →
+    Put l l′ at next (stepBytes d)
+unfolding stepBytes bytes
+whole d p = put-then (put-byte 2 (put-none _ _)) p
+
 slice-write-out : tie.Need-slice-write-out
 slice-write-out c = search needs
 
-cast-out : tie.Need-cast-out
-cast-out c = search needs
+add-put4 : tie.Need-add-put4
+add-put4 c = search needs
 
-add-out : tie.Need-add-out
-add-out c = search needs
+cast-put4 : tie.Need-cast-put4
+cast-put4 c = search needs
 
-slice-write-out-2 : tie.Need-slice-write-out-2
-slice-write-out-2 c = simp length-set (search needs)
+cast-put4-2 : tie.Need-cast-put4-2
+cast-put4-2 c = search needs
 
-cast-out-2 : tie.Need-cast-out-2
-cast-out-2 c = search needs
+cast-put4-3 : tie.Need-cast-put4-3
+cast-put4-3 c = search needs
 
-add-out-2 : tie.Need-add-out-2
-add-out-2 c = search needs
+cast-put4-4 : tie.Need-cast-put4-4
+cast-put4-4 c = search needs
 
-slice-write-out-3 : tie.Need-slice-write-out-3
-slice-write-out-3 c = simp length-set (search needs)
-
-cast-out-3 : tie.Need-cast-out-3
-cast-out-3 c = search needs
-
-add-out-3 : tie.Need-add-out-3
-add-out-3 c = search needs
-
-slice-write-out-4 : tie.Need-slice-write-out-4
-slice-write-out-4 c = simp length-set (search needs)
-
-cast-out-4 : tie.Need-cast-out-4
-cast-out-4 c = search needs
-
-add-out-4 : tie.Need-add-out-4
-add-out-4 c = search needs
-
-slice-write-out-5 : tie.Need-slice-write-out-5
-slice-write-out-5 c = simp length-set (search needs)
+put4-requires : tie.Need-put4-requires
+put4-requires c κs = simp length-set (search needs)
 
 same-length : tie.Need-same-length
-same-length c = search needs
+same-length c = simp length-set at (c .before .before .put4 .kept .0)
 
 returns : tie.Need-returns
-unfolding stepBytes bytes
-returns c = simp towards-suc
+returns c = whole _ (c .before .before .put4 .ensures)
 
 pub put-step-spec : {M : Type 1} → statement M
 put-step-spec =
     tie.close
     (tie.spec
     slice-write-out
-    cast-out
-    add-out
-    slice-write-out-2
-    cast-out-2
-    add-out-2
-    slice-write-out-3
-    cast-out-3
-    add-out-3
-    slice-write-out-4
-    cast-out-4
-    add-out-4
-    slice-write-out-5
+    add-put4
+    cast-put4
+    cast-put4-2
+    cast-put4-3
+    cast-put4-4
+    put4-requires
     same-length
     returns)

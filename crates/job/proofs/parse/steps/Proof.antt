@@ -1,149 +1,167 @@
--- `parse::steps`: the loop keeps that the answer to the file is the answer to its rest after the steps taken; each turn is the judgement of one step.
+-- `parse::steps`: the loop keeps that the answer to the file is the answer to its rest, with the steps taken so far.
+use mathlib.Core.Logic.{⊎-elim}
 use mathlib.Core.Path.{_≡_, refl, ap, sym, _∙_}
-use mathlib.Core.List.{List, [], _∷_, _++_}
+use mathlib.Core.List.{List, [], _∷_}
 use mathlib.Core.Option.{some}
-use Prim.Native.Nat.{ℕ, suc, _+_, _*_, _-_, _≤_, _<_}
-use native.Mathlib.Numerals.{add-one}
+use Prim.Native.Nat.{ℕ, _+_, _-_, _≤_, _<_}
 use native.Mathlib.Omega.{arith}
 use borrow.Author.Needs.{needs}
-use lib.ListN.{length, getD, take, drop, set, replicate, length-drop, length-set}
-use lib.Seq.{length-take-le}
-use Rattle.base.specs.Number.{number}
-use Rattle.job.specs.declared.Platform.{Platform}
-use Rattle.job.specs.declared.parse.Pass.the-variants.{Count, Trouble}
-use Rattle.job.specs.Record.{step, kindOf, durationIn}
-use Rattle.job.specs.Read.{judged, records}
-use Rattle.job.specs.Pass.{StepsPassed, jobOf, stepTrouble}
-use Rattle.job.specs.Laws.Judged.{at-record, at-end, passOr, passes, stops, step-crowded, step-short, step-at, past-body}
-use Rattle.job.specs.Laws.Spare.{spare-set, take-set}
+use lib.ListN.{length, getD, drop, set, replicate}
+use Rattle.base.specs.Lists.{values}
+use Rattle.base.specs.Laws.Values.{length-values}
+use Rattle.job.specs.declared.parse.FoundStep.{FoundStep}
+use Rattle.job.specs.Job.{Job, withTasks}
+use Rattle.job.specs.Record.{step, kindOf, stands}
+use Rattle.job.specs.Read.{refused, records}
+use Rattle.job.specs.Pass.{misplacedNumber, StepDue, StepsDue, StepPassed, StepsPassed, Front}
+use Rattle.job.specs.Laws.Judged.{at-end, passes, stops}
+use Rattle.job.specs.Laws.Kinds.{kind-byte, misplaced-at, misplaced-some}
+use Rattle.job.specs.Laws.Due.{tasks-then, no-tasks, next-step}
+use Rattle.job.specs.Laws.Spare.{front-none, front-set, row-set}
 use Rattle.job.proofs.parse.steps.Statement.{statement}
 use Rattle.job.proofs.parse.steps.Tie as tie
 
--- m steps stand in the file up to byte `at` and in the array, whose other places are 0; the answer is that to the rest after them
-record Going (file durations : List ℕ) (m at : ℕ) : Type 0 where
-  few : m ≤ 256
-  place : at ≡ 4 + 5 * m
-  inside : at ≤ length file
-  long : length durations ≡ 256
-  spare : drop m durations ≡ replicate (256 - m) 0
-  same : (p : Platform) → 1 ≤ p .processors → records (drop 4 file) 0 (jobOf p [] []) ≡ records (drop at file) 0 (jobOf p (take m durations) [])
+abbrev row : List ℕ → ℕ → List ℕ
+row durations m = values (λ t. getD durations t 0) 0 m
 
-begun : (file durations : List ℕ) → durations ≡ replicate 256 0 → 4 ≤ length file → Going file durations 0 4
-begun file durations e h = record {
+-- m steps were taken up to place `at`, and are in the array
+record Going (file : List ℕ) (start : ℕ) (durations : List ℕ) (m at : ℕ) : Type 0 where
+  few : m ≤ 256
+  inside : at ≤ length file
+  front : Front 256 m durations
+  first : m ≡ 0 → at ≡ start
+  same : (j : Job) → StepsDue file start j → records (drop start file) 0 j ≡ records (drop at file) 0 (withTasks j (row durations m))
+
+begun : (file : List ℕ) (start : ℕ) (durations : List ℕ) → durations ≡ replicate 256 0 → start ≤ length file →
+    Going file start durations 0 start
+unfolding values
+begun file start durations e h = record {
   few = omega arith;
-  place = refl;
   inside = h;
-  long = ap length e;
-  spare = e;
-  same = λ p n. refl;
+  front = front-none 256 durations e;
+  first = λ z. refl;
+  same = λ j s. ap (records (drop start file) 0) (sym (no-tasks j));
 }
 
-module _ (file durations : List ℕ) (m at : ℕ) (g : Going file durations m at) where
-  taken : length (take m durations) ≡ m
-  taken = length-take-le m durations (omega (arith, g .few, g .long))
+module _ (file : List ℕ) (start : ℕ) (durations : List ℕ) (m at : ℕ) (g : Going file start durations m at) where
+  due : (j : Job) → StepsDue file start j → StepDue (withTasks j (row durations m)) m
+  due j s = next-step (s .due) (row durations m) m (omega (arith, length-values (λ t. getD durations t 0) 0 m))
 
-  ended : length file ≤ at → StepsPassed file durations (Trouble 1)
-  ended h p n = g .same p n ∙ at-end file at _ h
+  -- a step with trouble
+  bad : (r : FoundStep) → StepPassed file at m r → (r .trouble ≡ 0 → ⊥) →
+      StepsPassed file start durations (record { trouble = r .trouble; count = m; next = at })
+  bad r x z = record {
+    answer = λ j s. g .same j s ∙ x .answer (withTasks j (row durations m)) (due j s) ∙ stops _ _ z ∙ sym (stops _ _ z);
+    taken = λ e. absurd (z e);
+  }
 
-  module _ (h : at < length file) where
-    other : (getD file at 0 ≡ 2 → ⊥) → StepsPassed file durations (Count m)
-    other k =
-        (g .few, rw (g .place) at h, rw (g .place) at k, g .long, g .spare, λ p n. rw (g .place) at (g .same p n))
+  -- one step more
+  on : (r : FoundStep) → StepPassed file at m r → r .trouble ≡ 0 → Going file start (set durations m (r .duration)) (m + 1) (r .next)
+  on r x z = record {
+    few = omega (arith, x .few z);
+    inside = x .inside z;
+    front = front-set (g .front) (r .duration) (x .few z);
+    first = λ e. let n : ⊥ = omega arith in absurd n;
+    same = λ j s. g .same j s ∙ x .answer (withTasks j (row durations m)) (due j s) ∙ passes _ _ z
+        ∙ ap (records (drop (r .next) file) 0) (tasks-then j (row durations m) (r .duration ∷ [])
+        ∙ ap (withTasks j) (sym (row-set durations m (r .duration) (omega (arith, x .few z, g .front .long)))));
+  }
 
-    module _ (k : getD file at 0 ≡ 2) where
-      record-is : (p : Platform) → 1 ≤ p .processors → records (drop 4 file) 0 (jobOf p [] []) ≡ judged (some step) (drop (suc at) file) (jobOf p (take m durations) []) (records (drop (suc at) file))
-      unfolding kindOf
-      record-is p n = g .same p n ∙ at-record file at _ h ∙ rw k
+  -- the file ends
+  ended : length file ≤ at → StepsPassed file start durations (record { trouble = 1; count = m; next = at })
+  ended h = record { answer = λ j s. g .same j s ∙ at-end file at _ h; taken = λ e. let z : ⊥ = omega arith in absurd z }
 
-      crowd : m ≡ 256 → StepsPassed file durations (Trouble 5)
-      crowd e p n = record-is p n ∙ step-crowded _ p _ _ n (omega (arith, taken))
+  module _ (h : at < length file) (over : getD file at 0 ≡ 2 → ⊥) where
+    other : kindOf (getD file at 0) ≡ some step → ⊥
+    other e = over (kind-byte (getD file at 0) step e)
 
-      cut : m < 256 → length file - at < 5 → StepsPassed file durations (Trouble 1)
-      cut f s p n = record-is p n ∙ step-short _ p _ _ n (omega (arith, taken)) (simp length-drop (omega arith))
+    -- no step is there
+    missing : (j : Job) → StepsDue file at j → (n : ℕ) → n ≡ misplacedNumber (kindOf (getD file at 0)) →
+        records (drop at file) 0 j ≡ refused n
+    missing j s n i = rw i (misplaced-at file at j h (λ k q. ⊎-elim (λ w. absurd (other (rw w at q))) (λ w. w) (s .alone h k q)))
 
-      module _ (f : m < 256) (s : at + 5 ≤ length file) (d : ℕ) (e : d ≡ number (take 4 (drop (at + 1) file))) where
-        duration-is : durationIn (drop (suc at) file) ≡ d
-        unfolding durationIn
-        duration-is = sym (rw add-one at e)
-
-        step-is : (p : Platform) → 1 ≤ p .processors → records (drop 4 file) 0 (jobOf p [] []) ≡ passOr (stepTrouble d) (records (drop (at + 5) file) 0 (jobOf p (take m durations ++ (d ∷ [])) []))
-        step-is p n = record-is p n ∙ step-at _ p _ _ n (omega (arith, taken)) (simp length-drop (omega arith)) ∙ rw duration-is (ap (passOr (stepTrouble d)) (past-body file at _))
-
-        bad : (t : ℕ) → t ≡ stepTrouble d → (t ≡ 0 → ⊥) → StepsPassed file durations (Trouble t)
-        bad t i z p n = step-is p n ∙ rw (← i) (stops t _ z)
-
-        on : stepTrouble d ≡ 0 → Going file (set durations m d) (m + 1) (at + 5)
-        on z = record {
-          few = omega arith;
-          place = omega (arith, g .place);
-          inside = s;
-          long = length-set durations m d ∙ g .long;
-          spare = spare-set 256 m durations (g .long) d f (g .spare);
-          same = λ p n. step-is p n ∙ passes _ _ z ∙ ap (λ (ts : List ℕ). records (drop (at + 5) file) 0 (jobOf p ts [])) (sym (take-set durations m d (omega (arith, g .long))));
+    none : m ≡ 0 → (n : ℕ) → n ≡ misplacedNumber (kindOf (getD file at 0)) →
+        StepsPassed file start durations (record { trouble = n; count = m; next = at })
+    none e n i =
+        let z : n ≡ 0 → ⊥ = λ q. misplaced-some (kindOf (getD file at 0)) (sym i ∙ q) in
+        record {
+          answer = λ j s. (rw (g .first e) at (missing j (rw (← g .first e) at s) n i)) ∙ sym (stops n _ z);
+          taken = λ q. absurd (z q);
         }
 
+    done : 1 ≤ m → StepsPassed file start durations (record { trouble = 0; count = m; next = at })
+    done e = record {
+      answer = g .same;
+      taken = λ z. record { some-task = e; few-tasks = g .few; inside = h; over = other; front = g .front };
+    }
+
 abbrev Inv-loop : tie.InvT-loop
-Inv-loop file durations₀ m₀ at₀ durations m at = Going file durations m at
+Inv-loop file start durations₀ count₀ at₀ durations count at = Going file start durations count at
 
 abbrev μ-loop : tie.MeasureT-loop
-μ-loop file durations₀ m₀ at₀ durations m at = length file - at
+μ-loop file start durations₀ count₀ at₀ durations count at = length file - at
 
 loop-holds : tie.Need-loop-holds Inv-loop μ-loop
-loop-holds c = begun _ _ (c .before .pre .1) (c .before .pre .0)
+loop-holds c = begun _ _ _ (c .before .pre .1) (c .before .pre .0)
 
-shared-slice-read-if1 : tie.Need-shared-slice-read-if1 Inv-loop μ-loop
-shared-slice-read-if1 c = search needs
+stands-requires : tie.Need-stands-requires Inv-loop μ-loop
+stands-requires c κs = search needs
+
+step-requires : tie.Need-step-requires Inv-loop μ-loop
+unfolding kindOf
+step-requires c κs =
+    let t = c .before .stands .ensures .yes (c .if1 .taken) in
+    (t .0, rw (t .1), c .before .before .loop .inv .few)
 
 returns : tie.Need-returns Inv-loop μ-loop
-returns c = other _ _ _ _ (c .before .before .before .loop .inv) (search needs) (c .if1 .taken)
-
-returns-2 : tie.Need-returns-2 Inv-loop μ-loop
-returns-2 c = crowd _ _ _ _ (c .before .before .before .before .loop .inv) (search needs) (c .before .if1 .left) (c .if2 .taken)
-
-sub-if3 : tie.Need-sub-if3 Inv-loop μ-loop
-sub-if3 c = search needs
-
-returns-3 : tie.Need-returns-3 Inv-loop μ-loop
-returns-3 c = cut _ _ _ _ (c .before .before .before .before .before .loop .inv) (search needs) (c .before .before .if1 .left) (search needs) (c .if3 .taken)
-
-add-number4 : tie.Need-add-number4 Inv-loop μ-loop
-add-number4 c = search needs
-
-number4-requires : tie.Need-number4-requires Inv-loop μ-loop
-number4-requires c κs = search needs
-
-step-trouble-requires : tie.Need-step-trouble-requires Inv-loop μ-loop
-step-trouble-requires c κs = search needs
-
-returns-4 : tie.Need-returns-4 Inv-loop μ-loop
-returns-4 c =
-    let at-if1 = c .before .before .before .before .before in
-    let at-loop = at-if1 .before .before .before in
-    bad _ _ _ _ (at-loop .loop .inv) (search needs) (at-if1 .if1 .left) (search needs) (search needs) _ (c .before .before .number4 .ensures) _ (c .before .step-trouble .ensures) (c .if4 .taken)
+returns c =
+    let at-step = c .before .before in
+    bad _ _ _ _ _ (at-step .before .before .before .loop .inv) _ (at-step .step .ensures) (c .if2 .taken)
 
 mul-durations : tie.Need-mul-durations Inv-loop μ-loop
 mul-durations c = search needs
 
 element-write-durations : tie.Need-element-write-durations Inv-loop μ-loop
-element-write-durations c = search needs
+element-write-durations c = c .before .before .step .ensures .few (c .if2 .left)
 
-add-m : tie.Need-add-m Inv-loop μ-loop
-add-m c = search needs
-
-add-at : tie.Need-add-at Inv-loop μ-loop
-add-at c = search needs
+add-count : tie.Need-add-count Inv-loop μ-loop
+add-count c = let h = c .before .before .step .ensures .few (c .if2 .left) in search needs
 
 loop-less : tie.Need-loop-less Inv-loop μ-loop
-loop-less c = search needs
+loop-less c =
+    let x = c .before .before .step .ensures in
+    omega (arith, x .ahead (c .if2 .left), x .inside (c .if2 .left))
 
 loop-again : tie.Need-loop-again Inv-loop μ-loop
 loop-again c =
-    let at-if1 = c .before .before .before .before .before in
-    let at-loop = at-if1 .before .before .before in
-    on _ _ _ _ (at-loop .loop .inv) (search needs) (at-if1 .if1 .left) (search needs) (search needs) _ (c .before .before .number4 .ensures) (sym (c .before .step-trouble .ensures) ∙ c .if4 .left)
+    let at-step = c .before .before in
+    on _ _ _ _ _ (at-step .before .before .before .loop .inv) _ (at-step .step .ensures) (c .if2 .left)
 
-returns-5 : tie.Need-returns-5 Inv-loop μ-loop
-returns-5 c = ended _ _ _ _ (c .before .loop .inv) (c .loop-test .left)
+returns-2 : tie.Need-returns-2 Inv-loop μ-loop
+returns-2 c = ended _ _ _ _ _ (c .before .before .before .loop .inv) (c .if3 .taken)
+
+shared-slice-read-misplaced : tie.Need-shared-slice-read-misplaced Inv-loop μ-loop
+shared-slice-read-misplaced c = search needs
+
+misplaced-requires : tie.Need-misplaced-requires Inv-loop μ-loop
+misplaced-requires c κs = search needs
+
+returns-3 : tie.Need-returns-3 Inv-loop μ-loop
+returns-3 c =
+    let at-if4 = c .before .before in
+    let at-if1 = at-if4 .before .before in
+    let at-stands = at-if1 .before in
+    let at-loop = at-stands .before in
+    none _ _ _ _ _ (at-loop .loop .inv) (at-if4 .before .if3 .left)
+    (at-stands .stands .ensures .no (at-if1 .if1 .left) (at-if4 .before .if3 .left)) (at-if4 .if4 .taken) _ (c .misplaced .ensures)
+
+returns-4 : tie.Need-returns-4 Inv-loop μ-loop
+returns-4 c =
+    let at-if3 = c .before in
+    let at-stands = at-if3 .before .before in
+    let at-loop = at-stands .before in
+    done _ _ _ _ _ (at-loop .loop .inv) (at-if3 .if3 .left)
+    (at-stands .stands .ensures .no (at-if3 .before .if1 .left) (at-if3 .if3 .left)) (search needs)
 
 pub steps-spec : {M : Type 1} → statement M
 steps-spec =
@@ -152,19 +170,16 @@ steps-spec =
     Inv-loop
     μ-loop
     loop-holds
-    shared-slice-read-if1
+    stands-requires
+    step-requires
     returns
-    returns-2
-    sub-if3
-    returns-3
-    add-number4
-    number4-requires
-    step-trouble-requires
-    returns-4
     mul-durations
     element-write-durations
-    add-m
-    add-at
+    add-count
     loop-less
     loop-again
-    returns-5)
+    returns-2
+    shared-slice-read-misplaced
+    misplaced-requires
+    returns-3
+    returns-4)

@@ -31,13 +31,13 @@ module _ (m least f t n : ℕ) where
     unfolding linkTrouble countInRange joins key
     not-above g =
         let g′ : 256 * f + t < least = omega arith in
-        simp (le-leb _ _ a, le-leb _ _ b, lt-ltb _ _ d, lt-ltb _ _ e, lt-ltb _ _ g′)
+        simp (le-leb _ _ a, le-leb _ _ b, lt-ltb _ _ d, lt-ltb _ _ e, lt-leb _ _ g′)
 
     none : least ≤ k → 0 ≡ linkTrouble m least (edge f t n)
     unfolding linkTrouble countInRange joins key
     none g =
         let g′ : least ≤ 256 * f + t = omega arith in
-        simp (le-leb _ _ a, le-leb _ _ b, lt-ltb _ _ d, lt-ltb _ _ e, le-ltb _ _ g′)
+        simp (le-leb _ _ a, le-leb _ _ b, lt-ltb _ _ d, lt-ltb _ _ e, le-leb _ _ g′)
 
 returns : tie.Need-returns
 returns c = low _ _ _ _ _ (c .if1 .taken)
@@ -59,14 +59,16 @@ returns-5 c =
     let at-if3 = c .before .before .before in
     let at-if2 = at-if3 .before in
     let at-if1 = at-if2 .before in
-    not-above _ _ _ _ _ (at-if1 .if1 .left) (at-if2 .if2 .left) (at-if3 .if3 .left) (c .before .before .if4 .left) _ (c .before .key .ensures .0) (c .if5 .taken)
+    not-above _ _ _ _ _ (at-if1 .if1 .left) (at-if2 .if2 .left) (at-if3 .if3 .left) (c .before .before .if4 .left) _
+    (c .before .key .ensures .0) (c .if5 .taken)
 
 returns-6 : tie.Need-returns-6
 returns-6 c =
     let at-if3 = c .before .before .before in
     let at-if2 = at-if3 .before in
     let at-if1 = at-if2 .before in
-    none _ _ _ _ _ (at-if1 .if1 .left) (at-if2 .if2 .left) (at-if3 .if3 .left) (c .before .before .if4 .left) _ (c .before .key .ensures .0) (c .if5 .left)
+    none _ _ _ _ _ (at-if1 .if1 .left) (at-if2 .if2 .left) (at-if3 .if3 .left) (c .before .before .if4 .left) _
+    (c .before .key .ensures .0) (c .if5 .left)
 
 pub link-trouble-spec : {M : Type 1} → statement M
 link-trouble-spec =
