@@ -29,13 +29,13 @@ import etf  # noqa: E402
 from differential import STDIN, case_files  # noqa: E402
 from jobs import some_file  # noqa: E402
 from vectors.dice import Dice  # noqa: E402
-from vectors.jobs import chain, greatest, greatest_values  # noqa: E402
+from vectors.jobs import LONGEST, chain, greatest, greatest_values  # noqa: E402
 from vectors.records import END, link, rack, step  # noqa: E402
 
 PROGRAM = TOP / "target" / "bin" / "plan"
 FOLDER = TOP / "target" / "program"
 JOBS, PIECES, SECONDS = 300, 300, 20
-LONGEST = 6405  # the bytes of the greatest file
+READ = 16_384  # the bytes that the program reads at most
 
 
 class Differs(Exception):
@@ -121,7 +121,7 @@ def long(dice):
     assert len(most) == LONGEST
     noise = bytes(dice.below(256) for _ in range(4096))
     for name, head in (("case A", good), ("the greatest job", most)):
-        for more in (1, LONGEST + 1 - len(head), 4096, 65_536, 3_000_000):
+        for more in (1, LONGEST + 1 - len(head), 4096, READ - len(head), READ + 1 - len(head), 65_536, 3_000_000):
             if more > 0:
                 yield f"{name} and {more} bytes", head + (noise * (more // 4096 + 1))[:more]
     yield "the greatest job twice", most + most

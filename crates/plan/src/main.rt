@@ -1,6 +1,6 @@
 // Reads a job file from standard input and prints its plan (document 01, "Ticks worked out").
 //
-// The first 6,406 bytes settle what is printed (`first-bytes` in crates/listing/specs/Printed.antt): no more are read.
+// The first 16,384 bytes settle what is printed (`enough` in specs/Input.antt): no more are read.
 use job::Verdict;
 use libc::STDIN_FILENO;
 use libc::STDOUT_FILENO;
@@ -58,7 +58,7 @@ fn answer(file: &[u8], out: &mut [u8; 12288]) -> usize
 }
 
 fn main() {
-    let mut input = [0u8; 6406];
+    let mut input = [0u8; 16384];
     let came = read_all(&mut input);
     let Came::Bytes(n) = came else {
         os::fail(b"plan: read");
