@@ -145,7 +145,7 @@ pub fn write(
         &arrays.to,
         &arrays.counts,
     );
-    if number != 0 {
+    if 0 < number {
         return Written::Refused(number);
     }
     if out.len() < emit::file_length(tasks, edges) {

@@ -83,7 +83,8 @@ returns-3 : tie.Need-returns-3
 returns-3 c =
     let at-job-trouble = c .before in
     let at-if2 = at-job-trouble .before .before .before .before .before .before in
-    bad _ _ _ _ (at-if2 .before .if1 .left) (at-if2 .if2 .left) _ (at-job-trouble .job-trouble .ensures) (c .if3 .taken)
+    bad _ _ _ _ (at-if2 .before .if1 .left) (at-if2 .if2 .left) (at-job-trouble .job-trouble .result) (at-job-trouble .job-trouble .ensures)
+    (λ z. omega (arith, c .if3 .taken))
 
 file-length-requires : tie.Need-file-length-requires
 file-length-requires c κs = search needs
@@ -93,7 +94,9 @@ returns-4 c =
     let at-if3 = c .before .before in
     let at-job-trouble = at-if3 .before in
     let at-if2 = at-job-trouble .before .before .before .before .before .before in
-    no-room _ _ _ _ (at-if2 .before .if1 .left) (at-if2 .if2 .left) _ (at-job-trouble .job-trouble .ensures) (at-if3 .if3 .left) _
+    no-room _ _ _ _ (at-if2 .before .if1 .left) (at-if2 .if2 .left) (at-job-trouble .job-trouble .result)
+    (at-job-trouble .job-trouble .ensures)
+    (omega (arith, at-if3 .if3 .left)) _
     (held-size _ _ _ _ _ (c .before .file-length .ensures)) (c .if4 .taken)
 
 put-job-requires : tie.Need-put-job-requires
@@ -113,7 +116,9 @@ returns-5 c =
     let at-if3 = at-if4 .before .before in
     let at-job-trouble = at-if3 .before in
     let at-if2 = at-job-trouble .before .before .before .before .before .before in
-    wrote _ _ _ _ (at-if2 .before .if1 .left) (at-if2 .if2 .left) _ (at-job-trouble .job-trouble .ensures) (at-if3 .if3 .left) _
+    wrote _ _ _ _ (at-if2 .before .if1 .left) (at-if2 .if2 .left) (at-job-trouble .job-trouble .result)
+    (at-job-trouble .job-trouble .ensures)
+    (omega (arith, at-if3 .if3 .left)) _
     (held-size _ _ _ _ _ (at-if4 .before .file-length .ensures)) (at-if4 .if4 .left) _ _ (at-put-job .put-job .ensures)
 
 pub write-spec : {M : Type 1} → statement M

@@ -59,10 +59,10 @@ add-if3 : tie.Need-add-if3
 add-if3 c = search needs
 
 returns-3 : tie.Need-returns-3
-returns-3 c = more-bytes _ _ (search needs) (c .before .if2 .left) (c .if3 .taken)
+returns-3 c = more-bytes _ _ (search needs) (c .before .if2 .left) (search needs)
 
 returns-4 : tie.Need-returns-4
-returns-4 c = done _ _ (search needs) (c .before .if2 .left) (c .if3 .left)
+returns-4 c = done _ _ (search needs) (c .before .if2 .left) (search needs)
 
 pub end-spec : {M : Type 1} → statement M
 end-spec =

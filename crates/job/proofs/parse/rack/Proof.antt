@@ -82,7 +82,7 @@ returns-2 : tie.Need-returns-2
 returns-2 c = other _ _ (search needs) (c .before .if2 .taken) _ (c .misplaced .ensures)
 
 returns-3 : tie.Need-returns-3
-returns-3 c = cut _ _ (search needs) (c .before .if2 .left) (c .if3 .taken)
+returns-3 c = cut _ _ (search needs) (c .before .if2 .left) (search needs)
 
 shared-slice-read-t8 : tie.Need-shared-slice-read-t8
 shared-slice-read-t8 c = search needs

@@ -43,10 +43,10 @@ returns : tie.Need-returns
 returns c = low _ _ _ _ _ (c .if1 .taken)
 
 returns-2 : tie.Need-returns-2
-returns-2 c = high _ _ _ _ _ (c .before .if1 .left) (c .if2 .taken)
+returns-2 c = high _ _ _ _ _ (search needs) (search needs)
 
 returns-3 : tie.Need-returns-3
-returns-3 c = backward _ _ _ _ _ (c .before .before .if1 .left) (c .before .if2 .left) (c .if3 .taken)
+returns-3 c = backward _ _ _ _ _ (search needs) (search needs) (c .if3 .taken)
 
 returns-4 : tie.Need-returns-4
 returns-4 c = absent _ _ _ _ _ (c .before .before .before .if1 .left) (c .before .before .if2 .left) (c .before .if3 .left) (c .if4 .taken)
