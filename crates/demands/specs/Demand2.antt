@@ -135,7 +135,8 @@ own-bytes-accepted = bytes-accepted
 
 -- ---- 00: "A job that the writer takes, written out and read, is the same job .."
 
-pub written-and-read : (p : Platform) (m l : ℕ) (a : Arrays) (out : List ℕ) (n : ℕ) → Held a → writeAnswer m l (heldJob p m l a) out ≡ Length n
+pub written-and-read : (p : Platform) (m l : ℕ) (a : Arrays) (out : List ℕ) (n : ℕ) → Held a
+    → writeAnswer m l (heldJob p m l a) out ≡ Length n
     → readJob (take n (writeOut (Length n) (heldJob p m l a) out)) ≡ accepted (heldJob p m l a)
 written-and-read = written-read
 

@@ -19,12 +19,14 @@ pub record Job : Type 0 where
 unfoldable pub blank : Job
 blank = record { platform = record { processors = 0; topology = 0; unit = 0 }; tasks = []; edges = [] }
 
--- a job with this rack, with these steps more, with these links more
+-- a job with this rack
 abbrev pub withRack : Job → Platform → Job
 withRack j p = record { platform = p; tasks = j .tasks; edges = j .edges }
 
+-- a job with these steps more
 abbrev pub withTasks : Job → List ℕ → Job
 withTasks j ts = record { platform = j .platform; tasks = j .tasks ++ ts; edges = j .edges }
 
+-- a job with these links more
 abbrev pub withEdges : Job → List Edge → Job
 withEdges j es = record { platform = j .platform; tasks = j .tasks; edges = j .edges ++ es }

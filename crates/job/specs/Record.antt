@@ -99,7 +99,7 @@ aboveLast [] e = true
 aboveLast (a ∷ []) e = rises a e
 aboveLast (a ∷ b ∷ es) e = aboveLast (b ∷ es) e
 
--- the number of what a record with values in range does not fit in the job so far, or 0: 6 for a link's ends, 7 for its order
+-- 01: 6 "from not below to, or to not below m", 7 "a link not above the one before"; 0 where the record fits in the job so far
 unfoldable pub misfit : Job → Kind → List ℕ → ℕ
 misfit j rack body = 0
 misfit j step body = 0

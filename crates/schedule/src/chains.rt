@@ -83,7 +83,8 @@ pub fn dearest<'a>(
     costs: [[u32; 16]; 16],
 ) -> u32
     requires { ⌜ InArrays platform tasks edges (now durations) (now from) (now to) (now counts) costs ⌝ }
-    ensures { λ r. ⌜ r ≡ dearestOf (instance (heldJob platform tasks edges (gathered (now (durations .entry)) (now (from .entry)) (now (to .entry)) (now (counts .entry))))) ⌝ }
+    ensures { λ r. ⌜ r ≡ dearestOf (instance
+        (heldJob platform tasks edges (gathered (now (durations .entry)) (now (from .entry)) (now (to .entry)) (now (counts .entry))))) ⌝ }
 {
     let cost = greatest_cost(costs, base::index(platform.processors));
     sum(edges, from, to, counts, cost)

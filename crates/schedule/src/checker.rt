@@ -149,7 +149,9 @@ pub fn trouble<'a>(
 ) -> u8
     requires { ⌜ InArrays platform tasks edges (now durations) (now from) (now to) (now counts) costs ⌝ }
     requires { ⌜ (tasks ≤ length (now starts)) × (tasks ≤ length (now processors)) ⌝ }
-    ensures { λ r. ⌜ r ≡ numberOf (checkOf (instance (heldJob platform tasks edges (gathered (now (durations .entry)) (now (from .entry)) (now (to .entry)) (now (counts .entry))))) (λ T. getD (now (processors .entry)) T 0) (λ T. getD (now (starts .entry)) T 0)) ⌝ }
+    ensures { λ r. ⌜ r ≡ numberOf (checkOf (instance
+        (heldJob platform tasks edges (gathered (now (durations .entry)) (now (from .entry)) (now (to .entry)) (now (counts .entry)))))
+        (λ T. getD (now (processors .entry)) T 0) (λ T. getD (now (starts .entry)) T 0)) ⌝ }
 {
     let number = misplaced(tasks, base::index(platform.processors), starts, processors);
     if number != 0 {

@@ -110,7 +110,10 @@ fn measure<'a>(
 ) -> Covered
     requires { ⌜ InArrays platform tasks edges (now durations) (now from) (now to) (now counts) costs ⌝ }
     requires { ⌜ Room tasks (now starts) (now processors) (now arrivals) ⌝ }
-    ensures { λ r. ⌜ Measured (instance (heldJob platform tasks edges (gathered (now (durations .entry)) (now (from .entry)) (now (to .entry)) (now (counts .entry))))) tasks r (now (starts .entry)) (now (starts .exit)) (now (processors .entry)) (now (processors .exit)) (now (arrivals .entry)) (now (arrivals .exit)) ⌝ }
+    ensures { λ r. ⌜ Measured (instance
+        (heldJob platform tasks edges (gathered (now (durations .entry)) (now (from .entry)) (now (to .entry)) (now (counts .entry)))))
+        tasks r (now (starts .entry)) (now (starts .exit))
+        (now (processors .entry)) (now (processors .exit)) (now (arrivals .entry)) (now (arrivals .exit)) ⌝ }
 {
     planner::run(
         platform,

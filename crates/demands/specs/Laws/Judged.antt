@@ -169,7 +169,8 @@ module _ (p : Platform) (m l : ℕ) (a : Arrays) (out : List ℕ) (h : Held a) w
   abbrev answer : Written
   answer = writeAnswer m l (heldJob p m l a) out
 
-  pub write-answers : (answer ≡ Length (length (fileOf (heldJob p m l a)))) ⊎ ((k : ℕ) × (answer ≡ NotWritten k) × (((3 ≤ k) × (k ≤ 7)) ⊎ (k ≡ 9)))
+  pub write-answers : (answer ≡ Length (length (fileOf (heldJob p m l a))))
+      ⊎ ((k : ℕ) × (answer ≡ NotWritten k) × (((3 ≤ k) × (k ≤ 7)) ⊎ (k ≡ 9)))
   write-answers =
       ⊎-elim inl (λ r. inr (r .0, r .1, write-numbers p m l a out (r .0) h (r .1)))
       (writes m l (heldJob p m l a) out)

@@ -52,6 +52,10 @@ pub first-none : (a b : ℕ) → a ≡ 0 → firstOf a b ≡ b
 first-none zero b h = refl
 first-none (suc a) b h = let z : ⊥ = omega arith in absurd z
 
+-- where there is trouble, what holds without it is not asked for
+pub troubled : (n : ℕ) {A : Type 0} → suc n ≡ 0 → A
+troubled n e = let z : ⊥ = omega arith in absurd z
+
 -- the trouble of a record that is whole: 4, its misfit, or 0
 abbrev pub trouble : Job → Kind → List ℕ → ℕ
 trouble j k rest = pick (not (inRange k rest)) 4 (misfit j k rest)

@@ -1,7 +1,7 @@
 -- What the reader keeps: after the rack, each turn leaves a job whose parts have passed their tests, so an accepted job has (`kept`).
 -- By induction on the chain of turns.
 use mathlib.Core.Bool.{true, false, not}
-use mathlib.Core.Path.{_≡_, refl}
+use mathlib.Core.Path.{_≡_, ap}
 use mathlib.Core.List.{List, [], _∷_}
 use Prim.Native.Nat.{ℕ, _≤_}
 use native.Mathlib.Omega.{arith}
@@ -14,7 +14,7 @@ use Rattle.job.specs.Record.{durationInRange, countInRange, inRange, joi
 use Rattle.job.specs.Read.{Answer, accepted}
 use Rattle.job.specs.Cause.{Untroubled}
 use Rattle.job.specs.Laws.Turn.{Reads, no-more, halted, past, closed}
-use Rattle.job.specs.Laws.Lists.{Each, each-more, Rising, rising-more}
+use Rattle.job.specs.Laws.Lists.{empty-nil, Each, each-more, Rising, rising-more}
 use Rattle.job.specs.Laws.Judged.{link-fits}
 use Rattle.job.specs.Laws.Tests.{platform-facts}
 
@@ -37,10 +37,6 @@ pub data SoFar : Job → Type 0 where
   nothing : SoFar blank
   begun : {j : Job} → Kept j → SoFar j
 
-none-in : {A : Type 0} (l : List A) → empty l ≡ true → length l ≡ 0
-none-in [] e = refl
-none-in (x ∷ l) e = cc
-
 some-in : {A : Type 0} (l : List A) → not (empty l) ≡ true → 1 ≤ length l
 some-in [] e = impossible e
 some-in (x ∷ l) e = omega arith
@@ -61,7 +57,7 @@ with-rack rest f = record {
 with-step : (rest : List ℕ) (j : Job) → Kept j → Untroubled rest j step → Kept (added j step rest)
 unfolding added stands full inRange
 with-step rest j b f =
-    let z = none-in (j .edges) (and-true (not (noRack j)) (empty (j .edges)) (f .placed) .1) in
+    let z : length (j .edges) ≡ 0 = ap length (empty-nil (j .edges) (and-true (not (noRack j)) (empty (j .edges)) (f .placed) .1)) in
     record {
       platform-right = b .platform-right;
       few-tasks = simp length-append (omega (arith, leb-false 256 (length (j .tasks)) (f .room)));

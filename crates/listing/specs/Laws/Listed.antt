@@ -142,7 +142,8 @@ module _ (file : List ℕ) {x : Reading} {m l : ℕ} (e : x ≡ readingOf (readJ
         ∙ (ap (λ (n : ℕ). most n (λ T. startOf I T + duration I T)) (sym (found .2))
         ∙ (sym (greatest-upto (λ T. startOf I T + duration I T) (length (job .tasks))) ∙ end-by-task I W))
 
-    lines-are : taskLines m (λ T. getD p T 0) (λ T. getD s T 0) (λ T. getD (x .arrays .durations) T 0) ≡ taskLines (tasks I) (processorOf I) (startOf I) (duration I)
+    lines-are : taskLines m (λ T. getD p T 0) (λ T. getD s T 0) (λ T. getD (x .arrays .durations) T 0)
+        ≡ taskLines (tasks I) (processorOf I) (startOf I) (duration I)
     unfolding instance
     lines-are = lines-same _ _ _ _ _ _ (sym (found .2)) processor-at start-at (λ T k. duration-at T)
 
@@ -158,7 +159,8 @@ module _ (file : List ℕ) {x : Reading} {m l : ℕ} (e : x ≡ readingOf (readJ
         → Put out o₁ 0 i (header (x .platform .processors) m l)
         → Put o₁ o₂ i j (taskLines m (λ T. getD p T 0) (λ T. getD s T 0) (λ T. getD (x .arrays .durations) T 0))
         → Put o₂ o₃ j k (figures E C D)
-        → E ≡ most m (λ T. getD s T 0 + getD (x .arrays .durations) T 0) → C ≡ coverIn q → D ≡ dearestIn q → k ≤ length out → listed k o₃ ≡ listingCall file out
+        → E ≡ most m (λ T. getD s T 0 + getD (x .arrays .durations) T 0) → C ≡ coverIn q → D ≡ dearestIn q → k ≤ length out
+        → listed k o₃ ≡ listingCall file out
     unfolding listingCall listing listingFor planListing
     plan-listed {out = out} E C D first second third e-is c-is d-is fits =
         put-front (put-then first (put-then second third)) fits

@@ -46,7 +46,8 @@ pub record Setting (I : Instance) (m n l : ℕ) (durations from to counts : List
   pub arrivals : (k T P : ℕ) → Opened I (run I k begin .placements) T → P < I .processors → arrival I (run I k begin .placements) T P ≤ 460800000
 
 pub setting : {platform : Platform} {m l : ℕ} {durations from to counts : List ℕ} {costs : List (List ℕ)} → InArrays platform m l durations from to counts costs
-    → {n : ℕ} → platform .processors ≡ n → Setting (instance (heldJob platform m l (gathered durations from to counts))) m n l durations from to counts costs
+    → {n : ℕ} → platform .processors ≡ n
+    → Setting (instance (heldJob platform m l (gathered durations from to counts))) m n l durations from to counts costs
 setting {platform} {m} {l} {durations} {from} {to} {counts} A e =
     let j = heldJob platform m l (gathered durations from to counts) in
     let a = A .accepted in

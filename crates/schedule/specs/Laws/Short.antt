@@ -90,7 +90,8 @@ module _ (I : Instance) (ps : List Placement) where
 -- ---- the planner's schedule in arrays
 
 module _ {platform : Platform} {m l : ℕ} {durations from to counts : List ℕ} {costs : List (List ℕ)} (A : InArrays platform m l durations from to counts costs)
-    {starts processors : List ℕ} (H : HoldsPlan (instance (heldJob platform m l (gathered durations from to counts))) m starts processors) where
+    {starts processors : List ℕ}
+    (H : HoldsPlan (instance (heldJob platform m l (gathered durations from to counts))) m starts processors) where
   -- the job, its instance and the planner's schedule
   abbrev J : Job
   J = heldJob platform m l (gathered durations from to counts)

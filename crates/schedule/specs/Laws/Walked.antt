@@ -42,7 +42,9 @@ holds-plan {I} {m} {r} {starts} {starts′} {processors} O R = record {
 }
 
 module _ {platform : Platform} {m l : ℕ} {durations from to counts : List ℕ} {costs : List (List ℕ)} (A : InArrays platform m l durations from to counts costs)
-    {starts processors : List ℕ} (H : HoldsPlan (instance (heldJob platform m l (gathered durations from to counts))) m starts processors) {n : ℕ} (e : n ≡ platform .processors) where
+    {starts processors : List ℕ}
+    (H : HoldsPlan (instance (heldJob platform m l (gathered durations from to counts))) m starts processors)
+    {n : ℕ} (e : n ≡ platform .processors) where
   -- the arrays hold a schedule on n processors
   pub scheduled-on : Scheduled m durations starts processors n
   scheduled-on = rw e (scheduled A H)
@@ -63,7 +65,8 @@ sender A S k h =
     }
 
 module _ {platform : Platform} {m l : ℕ} {durations from to counts : List ℕ} {costs : List (List ℕ)} (A : InArrays platform m l durations from to counts costs)
-    {starts processors : List ℕ} (H : HoldsPlan (instance (heldJob platform m l (gathered durations from to counts))) m starts processors)
+    {starts processors : List ℕ}
+    (H : HoldsPlan (instance (heldJob platform m l (gathered durations from to counts))) m starts processors)
     {n : ℕ} (same : n ≡ platform .processors) {predecessors through back′ time : List ℕ}
     (counted : (T : ℕ) → T < 256 → getD predecessors T 0 ≡ edgesTo to l T) (R : Through m durations starts processors n predecessors through)
     (M : Moves 256 l durations from to counts costs starts processors through back′ time) where

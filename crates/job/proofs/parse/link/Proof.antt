@@ -12,22 +12,19 @@ use Rattle.job.specs.Job.{Job, withEdges}
 use Rattle.job.specs.Record.{link, kindOf, bodyLength, inRange, misfit, added, edgeIn}
 use Rattle.job.specs.Read.{refusedOr, records}
 use Rattle.job.specs.Pass.{edge, key, linkTrouble, LinkDue, LinkPassed}
-use Rattle.job.specs.Laws.Judged.{crowded-at, short-at, whole-at}
+use Rattle.job.specs.Laws.Judged.{troubled, crowded-at, short-at, whole-at}
 use Rattle.job.specs.Laws.Due.{links-full, links-room}
 use Rattle.job.proofs.parse.link.Statement.{statement}
 use Rattle.job.proofs.parse.link.Tie as tie
-
-some-number : (n : ℕ) {A : Type 0} → suc n ≡ 0 → A
-some-number n e = let z : ⊥ = omega arith in absurd z
 
 module _ (file : List ℕ) (at m l least : ℕ) (h : at < length file) (is : kindOf (getD file at 0) ≡ some link) where
   crowd : l ≡ 1024 → LinkPassed file at m l least (record { trouble = 5; from = 0; to = 0; count = 0; least = 1; next = at })
   unfolding key
   crowd e = record {
     answer = λ j s. crowded-at file at j link h is (s .placed) (links-full s (omega arith));
-    ahead = some-number 4;
-    inside = some-number 4;
-    few = some-number 4;
+    ahead = troubled 4;
+    inside = troubled 4;
+    few = troubled 4;
     byte = omega arith;
     least-is = refl;
   }
@@ -37,9 +34,9 @@ module _ (file : List ℕ) (at m l least : ℕ) (h : at < length file) (is : kin
     unfolding bodyLength key
     cut i = record {
       answer = λ j s. short-at file at j link h is (s .placed) (links-room s room) (omega arith);
-      ahead = some-number 0;
-      inside = some-number 0;
-      few = some-number 0;
+      ahead = troubled 0;
+      inside = troubled 0;
+      few = troubled 0;
       byte = omega arith;
       least-is = refl;
     }

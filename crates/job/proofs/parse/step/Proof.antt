@@ -2,7 +2,7 @@
 use mathlib.Core.Path.{_≡_}
 use mathlib.Core.List.{List, [], _∷_}
 use mathlib.Core.Option.{some}
-use Prim.Native.Nat.{ℕ, suc, _+_, _-_, _≤_, _<_}
+use Prim.Native.Nat.{ℕ, _+_, _-_, _≤_, _<_}
 use native.Mathlib.Numerals.{add-one}
 use native.Mathlib.Omega.{arith}
 use borrow.Author.Needs.{needs}
@@ -12,21 +12,18 @@ use Rattle.job.specs.Job.{Job, withTasks}
 use Rattle.job.specs.Record.{step, kindOf, bodyLength, inRange, misfit, added, durationIn}
 use Rattle.job.specs.Read.{refusedOr, records}
 use Rattle.job.specs.Pass.{stepTrouble, StepDue, StepPassed}
-use Rattle.job.specs.Laws.Judged.{crowded-at, short-at, whole-at}
+use Rattle.job.specs.Laws.Judged.{troubled, crowded-at, short-at, whole-at}
 use Rattle.job.specs.Laws.Due.{steps-full, steps-room}
 use Rattle.job.proofs.parse.step.Statement.{statement}
 use Rattle.job.proofs.parse.step.Tie as tie
-
-some-number : (n : ℕ) {A : Type 0} → suc n ≡ 0 → A
-some-number n e = let z : ⊥ = omega arith in absurd z
 
 module _ (file : List ℕ) (at m : ℕ) (h : at < length file) (is : kindOf (getD file at 0) ≡ some step) where
   crowd : m ≡ 256 → StepPassed file at m (record { trouble = 5; duration = 0; next = at })
   crowd e = record {
     answer = λ j s. crowded-at file at j step h is (s .placed) (steps-full s (omega arith));
-    ahead = some-number 4;
-    inside = some-number 4;
-    few = some-number 4;
+    ahead = troubled 4;
+    inside = troubled 4;
+    few = troubled 4;
   }
 
   module _ (room : m < 256) where
@@ -34,9 +31,9 @@ module _ (file : List ℕ) (at m : ℕ) (h : at < length file) (is : kindOf (get
     unfolding bodyLength
     cut l = record {
       answer = λ j s. short-at file at j step h is (s .placed) (steps-room s room) (omega arith);
-      ahead = some-number 0;
-      inside = some-number 0;
-      few = some-number 0;
+      ahead = troubled 0;
+      inside = troubled 0;
+      few = troubled 0;
     }
 
     module _ (l : 5 ≤ length file - at) (t d : ℕ) (e : d ≡ number (take 4 (drop (at + 1) file))) (i : t ≡ stepTrouble d) where

@@ -51,7 +51,8 @@ carried g hs hp ha hw hl hb hc he hm = rw (hs, hp, ha, hw, hl, hb, hc, he, hm) g
 abbrev Inv-loop : tie.InvT-loop
 Inv-loop tasks edges durations from to counts starts₀ processors₀ arrivals₀ costs n runs waiting₀ latest₀ busy₀ clock₀ end₀ low₀ rounds₀ starts processors arrivals waiting latest busy clock end low rounds =
     (p : Platform) → p .processors ≡ n → InArrays p tasks edges durations from to counts costs → Room tasks starts₀ processors₀ arrivals₀
-    → Going (instance (heldJob p tasks edges (gathered durations from to counts))) edges from to counts starts₀ processors₀ arrivals₀ starts processors arrivals waiting latest busy clock end low rounds
+    → Going (instance (heldJob p tasks edges (gathered durations from to counts))) edges from to counts starts₀ processors₀ arrivals₀
+    starts processors arrivals waiting latest busy clock end low rounds
 
 abbrev μ-loop : tie.MeasureT-loop
 μ-loop tasks edges durations from to counts starts₀ processors₀ arrivals₀ costs n runs waiting₀ latest₀ busy₀ clock₀ end₀ low₀ rounds₀ starts processors arrivals waiting latest busy clock end low rounds =
@@ -70,7 +71,8 @@ module _ (a : tie.At-loop Inv-loop μ-loop) where
   room = begun .pre .1
 
   abbrev I : Instance
-  I = instance (heldJob (begun .args .platform) (begun .args .tasks) (begun .args .edges) (gathered (begun .args .durations .now) (begun .args .from .now) (begun .args .to .now) (begun .args .counts .now)))
+  I = instance (heldJob (begun .args .platform) (begun .args .tasks) (begun .args .edges)
+      (gathered (begun .args .durations .now) (begun .args .from .now) (begun .args .to .now) (begun .args .counts .now)))
 
   n-is : begun .args .platform .processors ≡ a .before .before .before .index .result
   n-is = sym (a .before .before .before .index .ensures .0)
