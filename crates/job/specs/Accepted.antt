@@ -10,6 +10,7 @@ use Rattle.job.specs.declared.Verdict.the-variants.{Counts, Refused}
 use Rattle.base.specs.Laws.Tests.{impossible}
 use Rattle.job.specs.declared.Arrays.{Arrays}
 use Rattle.job.specs.Job.{Edge, Job, blank}
+use Rattle.job.specs.Limits.{mostProcessors, mostUnit, mostDuration, mostCount, mostTasks, mostEdges}
 use Rattle.job.specs.Read.{Answer, accepted, refused, readJob, arraysOf, readingOf}
 use Rattle.job.specs.Laws.Turn.{reads}
 use Rattle.job.specs.Laws.Lists.{padded-length, padded-at, column-length, column-at, column-spare}
@@ -30,18 +31,18 @@ Before a b = (a .from < b .from) ⊎ ((a .from ≡ b .from) × (a .to < b .to))
 
 pub record Accepted (j : Job) : Type 0 where
   pub some-processor : 1 ≤ j .platform .processors
-  pub few-processors : j .platform .processors ≤ 16
+  pub few-processors : j .platform .processors ≤ mostProcessors
   pub known-topology : j .platform .topology ≤ 2
-  pub small-unit : j .platform .unit ≤ 100
+  pub small-unit : j .platform .unit ≤ mostUnit
   pub some-task : 1 ≤ length (j .tasks)
-  pub few-tasks : length (j .tasks) ≤ 256
+  pub few-tasks : length (j .tasks) ≤ mostTasks
   pub long-enough : (t : ℕ) → t < length (j .tasks) → 1 ≤ duration j t
-  pub short-enough : (t : ℕ) → t < length (j .tasks) → duration j t ≤ 1000000
-  pub few-edges : length (j .edges) ≤ 1024
+  pub short-enough : (t : ℕ) → t < length (j .tasks) → duration j t ≤ mostDuration
+  pub few-edges : length (j .edges) ≤ mostEdges
   pub forward : (i : ℕ) → i < length (j .edges) → edgeAt j i .from < edgeAt j i .to
   pub within : (i : ℕ) → i < length (j .edges) → edgeAt j i .to < length (j .tasks)
   pub some-message : (i : ℕ) → i < length (j .edges) → 1 ≤ edgeAt j i .count
-  pub few-messages : (i : ℕ) → i < length (j .edges) → edgeAt j i .count ≤ 1000
+  pub few-messages : (i : ℕ) → i < length (j .edges) → edgeAt j i .count ≤ mostCount
   pub rising : (i : ℕ) → suc i < length (j .edges) → Before (edgeAt j i) (edgeAt j (suc i))
 
 pub accepted-job : (file : List ℕ) (j : Job) → readJob file ≡ accepted j → Accepted j

@@ -1,9 +1,9 @@
 -- The small inputs of document 01's refusal table, and the file of its worked case A, held to the definition of the reader by computing it.
 use mathlib.Core.Bool.{Bool, true, _&&_}
-use mathlib.Core.Path.{_≡_, refl}
 use mathlib.Core.List.{List, [], _∷_, _++_, flatMap}
 use Prim.Native.Nat.{ℕ}
 use lib.Dec.{eqb}
+use lib.Dec.{T as Holds}
 use lib.ListN.{replicate}
 use Rattle.base.specs.Number.{number}
 use Rattle.job.specs.Job.{blank}
@@ -53,7 +53,7 @@ pub right : List Case → Bool
 right [] = true
 right (c ∷ cs) = eqb (numberOf (readJob (c .file))) (c .answer) && right cs
 
-pub cases-hold : right cases ≡ true
+pub cases-hold : Holds (right cases)
 unfolding right cases readJob blank records judged after kindOf bodyLength stands noRack full inRange platformInRange durationInRange
     countInRange misfit joins aboveLast rises added platformIn durationIn edgeIn number flatMap
-cases-hold = refl
+cases-hold = tt

@@ -1,9 +1,10 @@
 -- Why a file is refused: what each number of the reader stands for, and the places that the reader comes to (01: the refusal table).
-use mathlib.Core.Bool.{false, true}
+use mathlib.Core.Bool.{not}
 use mathlib.Core.Path.{_≡_}
 use mathlib.Core.List.{List}
 use mathlib.Core.Option.{Option, none, some}
 use Prim.Native.Nat.{ℕ, suc, _+_, _<_, _≤_}
+use lib.Dec.{T as Holds}
 use lib.ListN.{length, getD, drop}
 use Rattle.job.specs.Job.{Job, blank}
 use Rattle.job.specs.Record.{Kind, link, end, kindOf, bodyLength, empty, stands, full, inRange, joins, aboveLast, misfit, edgeIn}
@@ -13,19 +14,19 @@ use Rattle.job.specs.Record.{added}
 pub data Cause (rest : List ℕ) (j : Job) : Option Kind → ℕ → Type 0 where
   cut : {k : Kind} → length rest < bodyLength k → Cause rest j (some k) 1
   unknown : Cause rest j none 2
-  misplaced : {k : Kind} → stands j k ≡ false → Cause rest j (some k) 3
-  out-of-range : {k : Kind} → inRange k rest ≡ false → Cause rest j (some k) 4
-  too-many : {k : Kind} → full j k ≡ true → Cause rest j (some k) 5
-  bad-ends : joins (length (j .tasks)) (edgeIn rest) ≡ false → Cause rest j (some link) 6
-  not-above : aboveLast (j .edges) (edgeIn rest) ≡ false → Cause rest j (some link) 7
-  bytes-after : empty rest ≡ false → Cause rest j (some end) 8
+  misplaced : {k : Kind} → Holds (not (stands j k)) → Cause rest j (some k) 3
+  out-of-range : {k : Kind} → Holds (not (inRange k rest)) → Cause rest j (some k) 4
+  too-many : {k : Kind} → Holds (full j k) → Cause rest j (some k) 5
+  bad-ends : Holds (not (joins (length (j .tasks)) (edgeIn rest))) → Cause rest j (some link) 6
+  not-above : Holds (not (aboveLast (j .edges) (edgeIn rest))) → Cause rest j (some link) 7
+  bytes-after : Holds (not (empty rest)) → Cause rest j (some end) 8
 
 -- a record of kind k without trouble, with `rest` after its kind byte, after the job so far
 pub record Untroubled (rest : List ℕ) (j : Job) (k : Kind) : Type 0 where
-  pub placed : stands j k ≡ true
-  pub room : full j k ≡ false
+  pub placed : Holds (stands j k)
+  pub room : Holds (not (full j k))
   pub whole : bodyLength k ≤ length rest
-  pub ranges : inRange k rest ≡ true
+  pub ranges : Holds (inRange k rest)
   pub fits : misfit j k rest ≡ 0
 
 -- the reader comes to this place of the file with this job so far, past records without trouble

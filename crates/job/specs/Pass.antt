@@ -1,12 +1,13 @@
 -- What the private functions promise one another: one record or a pass over one kind of record, from a place of the file to the place
 -- after it, and the first trouble of a job. A reader of the public contracts needs nothing of this file.
-use mathlib.Core.Bool.{Bool, true, false, not}
+use mathlib.Core.Bool.{Bool, not}
 use mathlib.Core.Logic.{_⊎_}
 use mathlib.Core.Path.{_≡_}
 use mathlib.Core.List.{List, [], _∷_}
 use mathlib.Core.Option.{Option, none, some}
 use Prim.Native.Nat.{ℕ, zero, suc, _+_, _*_, _-_, _≤_, _<_}
 use lib.Dec.{leb}
+use lib.Dec.{T as Holds}
 use lib.ListN.{length, getD, drop, replicate}
 use mir.Syntax.{w8, w16, w32}
 use mir.Val.{Fits}
@@ -86,8 +87,8 @@ pub record LinksJudged (from to counts : List ℕ) (m l trouble : ℕ) : Type 0 
 
 -- the answer to whether a record of this kind stands at place `at`
 pub record StandsThere (file : List ℕ) (at kind : ℕ) (answer : Bool) : Type 0 where
-  pub yes : answer ≡ true → (at < length file) × (getD file at 0 ≡ kind)
-  pub no : answer ≡ false → at < length file → getD file at 0 ≡ kind → ⊥
+  pub yes : Holds answer → (at < length file) × (getD file at 0 ≡ kind)
+  pub no : Holds (not answer) → at < length file → getD file at 0 ≡ kind → ⊥
 
 -- the number for a kind that may not stand here: 3, or 2 where it is unknown
 unfoldable pub misplacedNumber : Option Kind → ℕ
@@ -102,7 +103,7 @@ pub record RackPassed (file : List ℕ) (r : FoundRack) : Type 0 where
 
 -- a job so far that a step may follow, with m steps
 pub record StepDue (j : Job) (m : ℕ) : Type 0 where
-  pub placed : stands j step ≡ true
+  pub placed : Holds (stands j step)
   pub tasks-are : length (j .tasks) ≡ m
 
 -- the step at place `at`, after m steps: its trouble, or 0 and what is left to judge is the file from `next` on, with this step more
@@ -129,7 +130,7 @@ pub record StepsTaken (file durations : List ℕ) (m next : ℕ) : Type 0 where
 -- a job so far that the first step may follow, and of the kinds that a record at place `at` can have, no other
 pub record StepsDue (file : List ℕ) (at : ℕ) (j : Job) : Type 0 where
   pub due : StepDue j 0
-  pub alone : at < length file → (k : Kind) → kindOf (getD file at 0) ≡ some k → (k ≡ step) ⊎ (stands j k ≡ false)
+  pub alone : at < length file → (k : Kind) → kindOf (getD file at 0) ≡ some k → (k ≡ step) ⊎ Holds (not (stands j k))
 
 -- the steps from place `at` on: the trouble that was met, or 0 and what is left to judge is the file from `next` on, with these steps more
 pub record StepsPassed (file : List ℕ) (at : ℕ) (durations : List ℕ) (r : Pass) : Type 0 where
@@ -144,7 +145,7 @@ Above es least = (e : Edge) → e .to < 256 → aboveLast es e ≡ leb least (ke
 
 -- a job so far that a link may follow, with m steps and l links; `least` is the least key above the last link
 pub record LinkDue (j : Job) (m l least : ℕ) : Type 0 where
-  pub placed : stands j link ≡ true
+  pub placed : Holds (stands j link)
   pub tasks-are : length (j .tasks) ≡ m
   pub edges-are : length (j .edges) ≡ l
   pub above : Above (j .edges) least
@@ -162,8 +163,8 @@ pub record LinkPassed (file : List ℕ) (at m l least : ℕ) (r : FoundLink) : T
 
 -- a job so far that the end record may follow, and of the kinds that a record at place `at` can have, no other
 pub record EndDue (file : List ℕ) (at : ℕ) (j : Job) : Type 0 where
-  pub placed : stands j end ≡ true
-  pub alone : at < length file → (k : Kind) → kindOf (getD file at 0) ≡ some k → (k ≡ end) ⊎ (stands j k ≡ false)
+  pub placed : Holds (stands j end)
+  pub alone : at < length file → (k : Kind) → kindOf (getD file at 0) ≡ some k → (k ≡ end) ⊎ Holds (not (stands j k))
 
 -- the end record at place `at`: its trouble, or 0 and the job so far is accepted
 abbrev pub EndPassed : List ℕ → ℕ → ℕ → Type 0

@@ -11,6 +11,7 @@ use Rattle.base.specs.Choice.{pick}
 use Rattle.base.specs.Number.{number}
 use Rattle.job.specs.declared.Platform.{Platform}
 use Rattle.job.specs.Job.{Edge, Job, withRack, withTasks, withEdges}
+use Rattle.job.specs.Limits.{mostProcessors, mostUnit, mostDuration, mostCount, mostTasks, mostEdges}
 
 -- 01: "kind | name"
 pub data Kind : Type 0 where
@@ -62,21 +63,21 @@ stands j end = not (empty (j .tasks))
 -- 01: "a step past 256 or a link past 1,024"
 unfoldable pub full : Job → Kind → Bool
 full j rack = false
-full j step = leb 256 (length (j .tasks))
-full j link = leb 1024 (length (j .edges))
+full j step = leb mostTasks (length (j .tasks))
+full j link = leb mostEdges (length (j .edges))
 full j end = false
 
 -- 01: "n (1 to 16), wiring (0 flat, 1 cube, 2 ring), c (0 to 100)"
 unfoldable pub platformInRange : Platform → Bool
-platformInRange p = leb 1 (p .processors) && leb (p .processors) 16 && leb (p .topology) 2 && leb (p .unit) 100
+platformInRange p = leb 1 (p .processors) && leb (p .processors) mostProcessors && leb (p .topology) 2 && leb (p .unit) mostUnit
 
 -- 01: "duration (1 to 1,000,000)"
 unfoldable pub durationInRange : ℕ → Bool
-durationInRange d = leb 1 d && leb d 1000000
+durationInRange d = leb 1 d && leb d mostDuration
 
 -- 01: "message count (1 to 1,000)"
 unfoldable pub countInRange : ℕ → Bool
-countInRange c = leb 1 c && leb c 1000
+countInRange c = leb 1 c && leb c mostCount
 
 -- each value of a record in its range
 unfoldable pub inRange : Kind → List ℕ → Bool

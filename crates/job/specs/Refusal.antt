@@ -9,6 +9,7 @@ use Rattle.job.specs.declared.Arrays.{Arrays}
 use Rattle.job.specs.declared.Platform.{Platform}
 use Rattle.job.specs.declared.Written.the-variants.{Refused}
 use Rattle.job.specs.Job.{Job}
+use Rattle.job.specs.Limits.{mostTasks, mostEdges}
 use Rattle.job.specs.Record.{kindOf}
 use Rattle.job.specs.Read.{refused, readJob}
 use Rattle.job.specs.Cause.{Cause, Reached}
@@ -28,7 +29,7 @@ read-numbers file n e = ⊎-elim (λ h. omega arith) (λ h. cause-number (h .1))
 
 -- the writer refuses with 5 for a count too large, with the reader's number for the job's file, or with 9 for too little room
 pub write-refused : (m l n : ℕ) (j : Job) (out : List ℕ) → writeAnswer m l j out ≡ Refused n →
-    ((n ≡ 5) × ((256 < m) ⊎ (1024 < l))) ⊎ ((readJob (fileOf j) ≡ refused n) ⊎ ((n ≡ 9) × (length out < length (fileOf j))))
+    ((n ≡ 5) × ((mostTasks < m) ⊎ (mostEdges < l))) ⊎ ((readJob (fileOf j) ≡ refused n) ⊎ ((n ≡ 9) × (length out < length (fileOf j))))
 unfolding writeAnswer
 write-refused m l n j out e = ⊎-elim (λ h. inl (h .0, many-counts m l (h .1)))
     (λ h. inr (room-refused n (fileOf j) out (readJob (fileOf j)) h)) (count-refused m l n _ e)

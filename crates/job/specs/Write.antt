@@ -13,6 +13,7 @@ use Rattle.job.specs.declared.Platform.{Platform}
 use Rattle.job.specs.declared.Written.{Written}
 use Rattle.job.specs.declared.Written.the-variants.{Length, Refused}
 use Rattle.job.specs.Job.{Edge, Job}
+use Rattle.job.specs.Limits.{mostTasks, mostEdges}
 use Rattle.job.specs.Read.{Answer, accepted, refused, readJob}
 
 -- the record of kind 1, rack
@@ -64,7 +65,7 @@ roomFor file out (refused k) = Refused k
 
 -- 01: "a count of any kind is above what a job can hold (256 steps, 1,024 links)"
 unfoldable pub tooMany : ℕ → ℕ → Bool
-tooMany m l = ltb 256 m || ltb 1024 l
+tooMany m l = ltb mostTasks m || ltb mostEdges l
 
 -- 01: "5 first if a count of any kind is above what a job can hold .., then as the reader would meet its records, then 9";
 -- as the reader would meet its records: as it answers to the file of the job

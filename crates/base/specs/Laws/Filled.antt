@@ -1,5 +1,5 @@
--- A slice whose first k places were filled: its length, each of its places, one place more. By extensionality: slices of one length with
--- the same entries are one.
+-- A slice whose first k places were filled: its length, each of its places, one place more.
+-- By extensionality: slices of one length with the same entries are one.
 use mathlib.Core.Path.{_≡_, refl, ap, sym, _∙_}
 use mathlib.Core.Logic.{_⊎_, inl, inr}
 use mathlib.Core.List.{List, _++_, map}

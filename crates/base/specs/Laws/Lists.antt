@@ -294,7 +294,10 @@ by-greatest-then-least {A} f g = record {
         split : Holds (ltb (f b) (f a)) ⊎ Holds (eqb (f a) (f b) && ltb (g a) (g b)) → Beats a b
         split (inl k) = inl (ltb→lt (f b) (f a) k)
         split (inr k) =
-            inr (eqb→eq (f a) (f b) (first (eqb (f a) (f b)) (ltb (g a) (g b)) k), ltb→lt (g a) (g b) (second (eqb (f a) (f b)) (ltb (g a) (g b)) k))
+            inr (
+              eqb→eq (f a) (f b) (first (eqb (f a) (f b)) (ltb (g a) (g b)) k),
+              ltb→lt (g a) (g b) (second (eqb (f a) (f b)) (ltb (g a) (g b)) k),
+            )
 
     of-not : (a b : A) → Holds (not (beats a b)) → Beats a b → ⊥
     of-not a b h (inl k) =
@@ -313,7 +316,8 @@ by-greatest-then-least {A} f g = record {
     along : (a b c : A) → (Beats a b → ⊥) → (Beats b c → ⊥) → Beats a c → ⊥
     along a b c x y z = cases (le-or-lt (f a) (f b)) (le-or-lt (f b) (f c)) (le-or-lt (f b) (f a)) (le-or-lt (f c) (f b)) z
       where
-        cases : (f a ≤ f b) ⊎ (f b < f a) → (f b ≤ f c) ⊎ (f c < f b) → (f b ≤ f a) ⊎ (f a < f b) → (f c ≤ f b) ⊎ (f b < f c) → Beats a c → ⊥
+        cases : (f a ≤ f b) ⊎ (f b < f a) → (f b ≤ f c) ⊎ (f c < f b) → (f b ≤ f a) ⊎ (f a < f b) → (f c ≤ f b) ⊎ (f b < f c)
+            → Beats a c → ⊥
         cases (inr p) q r s z = x (inl p)
         cases (inl p) (inr q) r s z = y (inl q)
         cases (inl p) (inl q) r s (inl z) = absurd (omega arith)

@@ -1,6 +1,6 @@
 -- `read`: the loop over the links keeps that the answer to the file is the answer to its rest, with the job that the arrays hold so far;
 -- each return is that answer after a part of the file.
-use mathlib.Core.Bool.{Bool, true, false, not, _&&_}
+use mathlib.Core.Bool.{not}
 use mathlib.Core.Logic.{_⊎_, inl, inr}
 use mathlib.Core.Path.{_≡_, refl, ap, sym, _∙_}
 use mathlib.Core.List.{List, [], _∷_}
@@ -8,9 +8,10 @@ use mathlib.Core.Option.{some}
 use Prim.Native.Nat.{ℕ, _+_, _-_, _≤_, _<_}
 use native.Mathlib.Omega.{arith}
 use borrow.Author.Needs.{needs}
-use borrow.Author.Tests.{ne-eqb}
+use lib.Dec.{T as Holds}
 use lib.ListN.{length, getD, drop, set}
 use Rattle.base.specs.Lists.{values}
+use Rattle.base.specs.Laws.Tests.{fails, second, ne→neqb, when-true, when-false}
 use Rattle.base.specs.Laws.Values.{length-values}
 use Rattle.job.specs.declared.Arrays.{Arrays}
 use Rattle.job.specs.declared.Platform.{Platform}
@@ -20,22 +21,18 @@ use Rattle.job.specs.declared.parse.FoundLink.{FoundLink}
 use Rattle.job.specs.declared.parse.FoundRack.{FoundRack}
 use Rattle.job.specs.declared.parse.Pass.{Pass}
 use Rattle.job.specs.Job.{blank, withRack, withTasks, withEdges}
-use Rattle.job.specs.Record.{Kind, rack, step, link, end, kindOf, noRack, stands}
+use Rattle.job.specs.Record.{Kind, rack, step, link, end, kindOf, empty, noRack, stands}
 use Rattle.job.specs.Read.{Answer, accepted, refused, refusedOr, records, readJob, padded, arraysOf, readingOf}
 use Rattle.job.specs.Write.{heldJob}
 use Rattle.job.specs.Pass.{edge, RackPassed, StepsPassed, LinkDue, LinkPassed, EndDue, EndPassed}
 use Rattle.job.specs.Laws.Judged.{passes, stops}
 use Rattle.job.specs.Laws.Kinds.{kind-byte}
-use Rattle.job.specs.Laws.Lists.{empty-not}
+use Rattle.job.specs.Laws.Lists.{empty-nil}
 use Rattle.job.specs.Laws.Due.{bare, first-step, first-link, next-link}
 use Rattle.job.specs.Laws.Columns.{edges-set}
 use Rattle.job.specs.Laws.Spare.{Filled, front-none, front-set, arrays-back}
 use Rattle.job.proofs.read.Statement.{statement}
 use Rattle.job.proofs.read.Tie as tie
-
-and-false : (b : Bool) → (b && false) ≡ false
-and-false true = refl
-and-false false = refl
 
 -- a refusal, in any of its cases
 refuse : (file : List ℕ) (n : ℕ) (a : Answer) (r : Reading) → r ≡ readingOf (refused n) → (n ≡ 0 → ⊥) → readJob file ≡ refusedOr n a →
@@ -133,11 +130,13 @@ module _ (file : List ℕ) (p : Platform) (m : ℕ) (a : Arrays) (l at least : �
   unfolding heldJob stands noRack
   ending other = record { placed = g .due .placed; alone = alone }
     where
-      alone : at < length file → (k : Kind) → kindOf (getD file at 0) ≡ some k → (k ≡ end) ⊎ (stands (heldJob p m l a) k ≡ false)
-      alone h rack e = inr (ne-eqb (p .processors) 0 (λ q. omega (arith, g .some-processor)))
+      alone : at < length file → (k : Kind) → kindOf (getD file at 0) ≡ some k → (k ≡ end) ⊎ Holds (not (stands (heldJob p m l a) k))
+      alone h rack e = inr (ne→neqb (p .processors) 0 (λ q. omega (arith, g .some-processor)))
       alone h step e =
-          inr (simp (empty-not (heldJob p m l a .edges) (λ q. g .over (sym (g .due .edges-are) ∙ q) e))
-          (and-false (not (noRack (heldJob p m l a)))))
+          let j = heldJob p m l a in
+          let edged : Holds (empty (j .edges)) → ⊥ =
+          λ t. g .over (sym (g .due .edges-are) ∙ ap length (empty-nil (j .edges) t)) e in
+          inr (fails (stands j step) (λ t. edged (second (not (noRack j)) (empty (j .edges)) t)))
       alone h link e = absurd (other h (kind-byte (getD file at 0) link e))
       alone h end e = inl refl
 
@@ -199,7 +198,7 @@ stands-requires c κs = search needs
 link-requires : tie.Need-link-requires Inv-loop μ-loop
 unfolding kindOf
 link-requires c κs =
-    let t = c .before .stands .ensures .yes (c .if3 .taken) in
+    let t = c .before .stands .ensures .yes (when-true (c .if3 .taken)) in
     (t .0, rw (t .1), c .before .before .loop .inv .few-edges)
 
 refusal-requires-3 : tie.Need-refusal-requires-3 Inv-loop μ-loop
@@ -248,7 +247,7 @@ returns-4 c =
     let at-if3 = at-end .before in
     let at-stands = at-if3 .before in
     let at-loop = at-stands .before in
-    let s = ending _ _ _ _ _ _ _ (at-loop .loop .inv) (at-stands .stands .ensures .no (at-if3 .if3 .left)) in
+    let s = ending _ _ _ _ _ _ _ (at-loop .loop .inv) (at-stands .stands .ensures .no (when-false (at-if3 .if3 .left))) in
     refuse _ _ _ _ (c .refusal4 .ensures) (c .before .if5 .taken)
     (ended _ _ _ _ _ _ _ (at-loop .loop .inv) s (at-end .end .result) (at-end .end .ensures))
 
@@ -258,7 +257,7 @@ returns-5 c =
     let at-if3 = at-end .before in
     let at-stands = at-if3 .before in
     let at-loop = at-stands .before in
-    let s = ending _ _ _ _ _ _ _ (at-loop .loop .inv) (at-stands .stands .ensures .no (at-if3 .if3 .left)) in
+    let s = ending _ _ _ _ _ _ _ (at-loop .loop .inv) (at-stands .stands .ensures .no (when-false (at-if3 .if3 .left))) in
     done _ _ _ _ _ _ _ (at-loop .loop .inv) s _ (at-end .end .ensures) (c .if5 .left)
 
 pub read-spec : {M : Type 1} → statement M

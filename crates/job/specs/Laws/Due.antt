@@ -5,10 +5,11 @@ use mathlib.Core.Path.{_≡_, refl, _∙_}
 use mathlib.Core.List.{List, [], _∷_, _++_, append-assoc, append-nil}
 use Prim.Native.Nat.{ℕ, _+_, _≤_, _<_}
 use native.Mathlib.Omega.{arith}
-use borrow.Author.Tests.{ne-eqb, lt-leb, le-leb}
+use lib.Dec.{eqb, le→leb}
+use lib.Dec.{T as Holds}
 use lib.ListN.{length, length-append}
 use Rattle.base.specs.Choice.{pick}
-use Rattle.base.specs.Laws.Tests.{and-true}
+use Rattle.base.specs.Laws.Tests.{first, both, not-not, ne→neqb, lt→nleb, when-true}
 use Rattle.job.specs.declared.Platform.{Platform}
 use Rattle.job.specs.Job.{Edge, Job, blank, withRack, withTasks, withEdges}
 use Rattle.job.specs.Record.{Kind, rack, step, link, end, empty, noRack, stands, full, platformInRange}
@@ -36,17 +37,16 @@ unfolding platformTrouble
 racked p = go (platformInRange p) refl
   where
     go : (t : Bool) → platformInRange p ≡ t → _≡_ {A = ℕ} (pick (not t) 4 0) 0 → 1 ≤ p .processors
-    go true e h = platform-facts p e .0
+    go true e h = platform-facts p (when-true e) .0
     go false e h = omega arith
-
-not-true : (b : Bool) → not b ≡ true → b ≡ false
-not-true true e = cc
-not-true false e = refl
 
 -- after the rack a step may follow, ..
 pub first-step : (p : Platform) → 1 ≤ p .processors → StepDue (withRack blank p) 0
 unfolding stands noRack blank
-first-step p h = record { placed = simp (ne-eqb (p .processors) 0 (λ e. omega arith)); tasks-are = refl }
+first-step p h = record {
+  placed = both (not (eqb (p .processors) 0)) true (ne→neqb (p .processors) 0 (λ e. omega arith)) tt;
+  tasks-are = refl;
+}
 
 -- .. and after steps
 pub next-step : {j : Job} {m : ℕ} → StepDue j m → (ts : List ℕ) (k : ℕ) → m + length ts ≡ k → StepDue (withTasks j ts) k
@@ -54,18 +54,18 @@ unfolding stands noRack
 next-step {j} {m} s ts k e = record { placed = s .placed; tasks-are = length-append (j .tasks) ts ∙ omega (arith, s .tasks-are) }
 
 -- before the first step nothing but a step may stand
-pub bare : (j : Job) → StepDue j 0 → (k : Kind) → (k ≡ step) ⊎ (stands j k ≡ false)
+pub bare : (j : Job) → StepDue j 0 → (k : Kind) → (k ≡ step) ⊎ Holds (not (stands j k))
 unfolding stands noRack
-bare j s rack = inr (not-true (noRack j) (and-true (not (noRack j)) (empty (j .edges)) (s .placed) .0))
+bare j s rack = inr (first (not (noRack j)) (empty (j .edges)) (s .placed))
 bare j s step = inl refl
-bare j s link = inr (simp (empty-is (j .tasks) (s .tasks-are)))
-bare j s end = inr (simp (empty-is (j .tasks) (s .tasks-are)))
+bare j s link = inr (not-not (empty (j .tasks)) (empty-is (j .tasks) (s .tasks-are)))
+bare j s end = inr (not-not (empty (j .tasks)) (empty-is (j .tasks) (s .tasks-are)))
 
 -- after steps a link may follow, ..
 pub first-link : (j : Job) (m : ℕ) → 1 ≤ m → length (j .tasks) ≡ m → j .edges ≡ [] → LinkDue j m 0 0
 unfolding stands
 first-link j m h e n = record {
-  placed = simp (empty-not (j .tasks) (λ z. omega arith));
+  placed = empty-not (j .tasks) (λ z. omega arith);
   tasks-are = e;
   edges-are = rw n;
   above = rw n above-none;
@@ -83,18 +83,18 @@ next-link {j} {m} {l} {least} s e h = record {
 }
 
 -- how many there may be
-pub steps-full : {j : Job} {m : ℕ} → StepDue j m → 256 ≤ m → full j step ≡ true
+pub steps-full : {j : Job} {m : ℕ} → StepDue j m → 256 ≤ m → Holds (full j step)
 unfolding full
-steps-full {j} s h = le-leb 256 (length (j .tasks)) (omega (arith, s .tasks-are))
+steps-full {j} s h = le→leb 256 (length (j .tasks)) (omega (arith, s .tasks-are))
 
-pub steps-room : {j : Job} {m : ℕ} → StepDue j m → m < 256 → full j step ≡ false
+pub steps-room : {j : Job} {m : ℕ} → StepDue j m → m < 256 → Holds (not (full j step))
 unfolding full
-steps-room {j} s h = lt-leb 256 (length (j .tasks)) (omega (arith, s .tasks-are))
+steps-room {j} s h = lt→nleb 256 (length (j .tasks)) (omega (arith, s .tasks-are))
 
-pub links-full : {j : Job} {m l least : ℕ} → LinkDue j m l least → 1024 ≤ l → full j link ≡ true
+pub links-full : {j : Job} {m l least : ℕ} → LinkDue j m l least → 1024 ≤ l → Holds (full j link)
 unfolding full
-links-full {j} s h = le-leb 1024 (length (j .edges)) (omega (arith, s .edges-are))
+links-full {j} s h = le→leb 1024 (length (j .edges)) (omega (arith, s .edges-are))
 
-pub links-room : {j : Job} {m l least : ℕ} → LinkDue j m l least → l < 1024 → full j link ≡ false
+pub links-room : {j : Job} {m l least : ℕ} → LinkDue j m l least → l < 1024 → Holds (not (full j link))
 unfolding full
-links-room {j} s h = lt-leb 1024 (length (j .edges)) (omega (arith, s .edges-are))
+links-room {j} s h = lt→nleb 1024 (length (j .edges)) (omega (arith, s .edges-are))

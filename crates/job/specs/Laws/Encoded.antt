@@ -1,13 +1,14 @@
 -- How the reader meets written records, after any job so far: a record's bytes give its values back, so a run of records comes to its
 -- first trouble or to the job with all of them.
-use mathlib.Core.Bool.{true}
 use mathlib.Core.Path.{_≡_, refl, ap, _∙_, sym}
 use mathlib.Core.List.{List, [], _∷_, _++_, append-assoc, flatMap}
 use Prim.Native.Nat.{ℕ, zero, suc, _+_, _^_, _<_, _≤_}
 use native.Mathlib.Omega.{arith}
+use lib.Dec.{T as Holds}
 use lib.ListN.{length, getD, take, length-append}
 use lib.Seq.{take-at, drop-at}
 use Rattle.base.specs.Number.{number, bytes}
+use Rattle.base.specs.Laws.Tests.{is-true}
 use Rattle.base.specs.Laws.Number.{length-bytes, number-bytes}
 use Rattle.job.specs.declared.Platform.{Platform}
 use Rattle.job.specs.Job.{Edge, Job, blank, withRack, withTasks, withEdges}
@@ -32,7 +33,7 @@ number-read k x tail h = rw (take-at (bytes k x) tail k (length-bytes k x)) (num
 pub read-rack : (p : Platform) (tail : List ℕ) →
     records (rackBytes p ++ tail) 0 blank ≡ refusedOr (platformTrouble p) (records tail 0 (withRack blank p))
 unfolding rackBytes kindOf stands noRack full bodyLength inRange misfit added platformIn platformTrouble blank
-read-rack p tail = whole-at (rackBytes p ++ tail) 0 blank rack (omega arith) refl refl refl (omega arith) (omega arith)
+read-rack p tail = whole-at (rackBytes p ++ tail) 0 blank rack (omega arith) refl tt tt (omega arith) (omega arith)
 
 -- one step
 read-step : (j : Job) (m d : ℕ) (tail : List ℕ) → StepDue j m → m < 256 → d < 2 ^ 32 →
@@ -80,6 +81,6 @@ read-links j m l least (e ∷ es) tail s h few =
     ∙ rw (rec, edges-then j (e ∷ []) es)
     (sym (first-met (linkTrouble m least e) (linksTrouble m (key e + 1) es) (records tail 0 (withEdges j (e ∷ es))))))
 
-pub read-end : (j : Job) → stands j end ≡ true → records (4 ∷ []) 0 j ≡ accepted j
+pub read-end : (j : Job) → Holds (stands j end) → records (4 ∷ []) 0 j ≡ accepted j
 unfolding records kindOf judged full bodyLength inRange misfit after
-read-end j s = simp s
+read-end j s = simp (is-true (stands j end) s)

@@ -1,22 +1,24 @@
 -- Where the reader halts, and why: the chain of turns is followed from the file's start to the turn that refuses.
 -- Then the writer's refusals, by its tests.
-use mathlib.Core.Bool.{Bool, true, false, _||_}
-use mathlib.Core.Logic.{_⊎_, inl, inr}
-use mathlib.Core.Path.{_≡_, refl, ap, sym, _∙_}
+use mathlib.Core.Bool.{Bool, true, false, not}
+use mathlib.Core.Logic.{_⊎_, inl, inr, ⊎-elim}
+use mathlib.Core.Path.{_≡_, refl, ap, _∙_}
 use mathlib.Core.List.{List, _∷_}
 use mathlib.Core.Option.{Option, some}
 use Prim.Native.Nat.{ℕ, suc, _+_, _≤_, _<_}
 use native.Mathlib.Omega.{arith}
-use borrow.Author.Tests.{ltb-true, ltb-false}
-use lib.Dec.{ltb}
+use borrow.Author.Tests.{ltb-true}
+use lib.Dec.{ltb, ltb→lt, nltb→le}
+use lib.Dec.{T as Holds}
 use lib.ListN.{length, getD, drop, length-drop}
 use lib.Seq.{drop-cons, drop-drop}
 use Rattle.base.specs.Choice.{pick}
-use Rattle.base.specs.Laws.Tests.{impossible}
+use Rattle.base.specs.Laws.Tests.{impossible, or-cases, neither, when-true, is-true}
 use Rattle.job.specs.declared.Written.{Written}
 use Rattle.job.specs.declared.Written.the-variants.{Length, Refused}
 use Rattle.job.specs.Job.{Job, blank}
-use Rattle.job.specs.Record.{Kind, kindOf, bodyLength, added}
+use Rattle.job.specs.Limits.{mostTasks, mostEdges}
+use Rattle.job.specs.Record.{Kind, kindOf, bodyLength, inRange, added}
 use Rattle.job.specs.Read.{Answer, accepted, refused, records, readJob}
 use Rattle.job.specs.Write.{roomFor, tooMany}
 use Rattle.job.specs.Cause.{Cause, Untroubled, Reached, start, next}
@@ -30,7 +32,7 @@ pub onward : (b : ℕ) (rest : List ℕ) (j : Job) (k : Kind) → kindOf b ≡ s
 unfolding records
 onward b rest j k e h f =
     rw e (whole k rest j (records rest) (f .placed) (f .room) (f .whole)
-    ∙ passes (trouble j k rest) _ (simp (f .ranges) (f .fits)) ∙ passed k rest j (records rest) h
+    ∙ passes (trouble j k rest) _ (simp (is-true (inRange k rest) (f .ranges)) (f .fits)) ∙ passed k rest j (records rest) h
     ∙ skip rest (bodyLength k) (added j k rest))
 
 pub reached-answer : (file : List ℕ) {at : ℕ} {j : Job} → Reached file at j → readJob file ≡ records (drop at file) 0 j
@@ -74,29 +76,22 @@ cause-number (not-above h) = omega arith
 cause-number (bytes-after h) = omega arith
 
 -- counts that are too large, and counts that are not
-pub many-counts : (m l : ℕ) → tooMany m l ≡ true → (256 < m) ⊎ (1024 < l)
+pub many-counts : (m l : ℕ) → Holds (tooMany m l) → (mostTasks < m) ⊎ (mostEdges < l)
 unfolding tooMany
-many-counts m l e = go (ltb 256 m) refl e
-  where
-    go : (p : Bool) → ltb 256 m ≡ p → (p || ltb 1024 l) ≡ true → (256 < m) ⊎ (1024 < l)
-    go true hp h = inl (ltb-true _ _ hp)
-    go false hp h = inr (ltb-true _ _ h)
+many-counts m l h =
+    ⊎-elim (λ t. inl (ltb→lt mostTasks m t)) (λ t. inr (ltb→lt mostEdges l t)) (or-cases (ltb mostTasks m) (ltb mostEdges l) h)
 
-pub few-counts : (m l : ℕ) → tooMany m l ≡ false → (m ≤ 256) × (l ≤ 1024)
+pub few-counts : (m l : ℕ) → Holds (not (tooMany m l)) → (m ≤ mostTasks) × (l ≤ mostEdges)
 unfolding tooMany
-few-counts m l e = go (ltb 256 m) refl e
-  where
-    go : (p : Bool) → ltb 256 m ≡ p → (p || ltb 1024 l) ≡ false → (m ≤ 256) × (l ≤ 1024)
-    go true hp h = impossible (sym h)
-    go false hp h = (ltb-false _ _ hp, ltb-false _ _ h)
+few-counts m l h = let n = neither (ltb mostTasks m) (ltb mostEdges l) h in (nltb→le mostTasks m (n .0), nltb→le mostEdges l (n .1))
 
 -- the writer's refusal: for a count, or else what the room and the reader's answer give
 pub count-refused : (m l n : ℕ) (w : Written) → pick (tooMany m l) (Refused 5) w ≡ Refused n →
-    ((n ≡ 5) × (tooMany m l ≡ true)) ⊎ (w ≡ Refused n)
+    ((n ≡ 5) × Holds (tooMany m l)) ⊎ (w ≡ Refused n)
 count-refused m l n w e = go (tooMany m l) refl e
   where
-    go : (b : Bool) → tooMany m l ≡ b → pick b (Refused 5) w ≡ Refused n → ((n ≡ 5) × (tooMany m l ≡ true)) ⊎ (w ≡ Refused n)
-    go true hb h = inl (cc, hb)
+    go : (b : Bool) → tooMany m l ≡ b → pick b (Refused 5) w ≡ Refused n → ((n ≡ 5) × Holds (tooMany m l)) ⊎ (w ≡ Refused n)
+    go true hb h = inl (cc, when-true hb)
     go false hb h = inr h
 
 pub room-refused : (n : ℕ) (file out : List ℕ) (a : Answer) → roomFor file out a ≡ Refused n →

@@ -6,9 +6,11 @@ use mathlib.Core.Option.{some}
 use Prim.Native.Nat.{ℕ, zero, suc, _+_, _<_, _≤_}
 use native.Mathlib.Omega.{arith}
 use borrow.Author.Tests.{lt-ltb, le-ltb}
+use lib.Dec.{T as Holds}
 use lib.ListN.{length, getD, drop, drop-of-length-le, length-drop}
 use lib.Seq.{drop-cons, drop-drop}
 use Rattle.base.specs.Choice.{pick}
+use Rattle.base.specs.Laws.Tests.{is-true, is-not, when-false}
 use Rattle.job.specs.Job.{Job}
 use Rattle.job.specs.Record.{Kind, rack, step, link, end, kindOf, bodyLength, stands, full, inRange, edgeIn, joins, aboveLast, misfit}
 use Rattle.job.specs.Record.{added}
@@ -61,27 +63,27 @@ abbrev pub trouble : Job → Kind → List ℕ → ℕ
 trouble j k rest = pick (not (inRange k rest)) 4 (misfit j k rest)
 
 module _ (k : Kind) (rest : List ℕ) (j : Job) (more : ℕ → Job → Answer) where
-  pub misplaced : stands j k ≡ false → judged (some k) rest j more ≡ refused 3
+  pub misplaced : Holds (not (stands j k)) → judged (some k) rest j more ≡ refused 3
   unfolding judged
-  misplaced s = simp s
+  misplaced s = simp (is-not (stands j k) s)
 
-  pub crowded : stands j k ≡ true → full j k ≡ true → judged (some k) rest j more ≡ refused 5
+  pub crowded : Holds (stands j k) → Holds (full j k) → judged (some k) rest j more ≡ refused 5
   unfolding judged
-  crowded s f = simp (s, f)
+  crowded s f = simp (is-true (stands j k) s, is-true (full j k) f)
 
-  pub short : stands j k ≡ true → full j k ≡ false → length rest < bodyLength k → judged (some k) rest j more ≡ refused 1
+  pub short : Holds (stands j k) → Holds (not (full j k)) → length rest < bodyLength k → judged (some k) rest j more ≡ refused 1
   unfolding judged
-  short s f h = simp (s, f, lt-ltb _ _ h)
+  short s f h = simp (is-true (stands j k) s, is-not (full j k) f, lt-ltb _ _ h)
 
   ranged : (b : Bool) → pick (not b) (refused 4) (refusedOr (misfit j k rest) (after k rest j more)) ≡
       refusedOr (pick (not b) 4 (misfit j k rest)) (after k rest j more)
   ranged true = refl
   ranged false = refl
 
-  pub whole : stands j k ≡ true → full j k ≡ false → bodyLength k ≤ length rest →
+  pub whole : Holds (stands j k) → Holds (not (full j k)) → bodyLength k ≤ length rest →
       judged (some k) rest j more ≡ refusedOr (trouble j k rest) (after k rest j more)
   unfolding judged
-  whole s f h = simp (s, f, le-ltb _ _ h) (ranged (inRange k rest))
+  whole s f h = simp (is-true (stands j k) s, is-not (full j k) f, le-ltb _ _ h) (ranged (inRange k rest))
 
 -- after a record without trouble that has a body, what is left to judge stands past the body
 pub passed : (k : Kind) (rest : List ℕ) (j : Job) (more : ℕ → Job → Answer) → 1 ≤ bodyLength k →
@@ -94,17 +96,17 @@ passed end rest j more h = let n : ⊥ = omega arith in absurd n
 
 -- the record at a place of a file, where its kind may stand
 module _ (file : List ℕ) (at : ℕ) (j : Job) (k : Kind) (h : at < length file) (is : kindOf (getD file at 0) ≡ some k)
-    (s : stands j k ≡ true) where
+    (s : Holds (stands j k)) where
   judged-there : records (drop at file) 0 j ≡ judged (some k) (drop (suc at) file) j (records (drop (suc at) file))
   judged-there = at-record file at j h ∙ rw is
 
-  pub crowded-at : full j k ≡ true → records (drop at file) 0 j ≡ refused 5
+  pub crowded-at : Holds (full j k) → records (drop at file) 0 j ≡ refused 5
   crowded-at f = judged-there ∙ crowded k (drop (suc at) file) j (records (drop (suc at) file)) s f
 
-  pub short-at : full j k ≡ false → length file < at + suc (bodyLength k) → records (drop at file) 0 j ≡ refused 1
+  pub short-at : Holds (not (full j k)) → length file < at + suc (bodyLength k) → records (drop at file) 0 j ≡ refused 1
   short-at f l = judged-there ∙ short k (drop (suc at) file) j (records (drop (suc at) file)) s f (simp length-drop (omega arith))
 
-  pub whole-at : full j k ≡ false → 1 ≤ bodyLength k → at + suc (bodyLength k) ≤ length file →
+  pub whole-at : Holds (not (full j k)) → 1 ≤ bodyLength k → at + suc (bodyLength k) ≤ length file →
       records (drop at file) 0 j
       ≡ refusedOr (trouble j k (drop (suc at) file)) (records (drop (at + suc (bodyLength k)) file) 0 (added j k (drop (suc at) file)))
   whole-at f b l =
@@ -115,13 +117,13 @@ module _ (file : List ℕ) (at : ℕ) (j : Job) (k : Kind) (h : at < length file
       ∙ ap (λ (l : List ℕ). records l 0 (added j k rest)) (drop-drop (bodyLength k) (suc at) file ∙ ap (λ (n : ℕ). drop n file) e))
 
 -- a link without misfit joins tasks and stands above the last; a misfit has its cause
-misfit-none : (a b : Bool) → _≡_ {A = ℕ} (pick (not a) 6 (pick (not b) 7 0)) 0 → (a ≡ true) × (b ≡ true)
-misfit-none true true e = (refl, refl)
+misfit-none : (a b : Bool) → _≡_ {A = ℕ} (pick (not a) 6 (pick (not b) 7 0)) 0 → Holds a × Holds b
+misfit-none true true e = (tt, tt)
 misfit-none true false e = let n : ⊥ = omega arith in absurd n
 misfit-none false b e = let n : ⊥ = omega arith in absurd n
 
 pub link-fits : (j : Job) (rest : List ℕ) → misfit j link rest ≡ 0 →
-    (joins (length (j .tasks)) (edgeIn rest) ≡ true) × (aboveLast (j .edges) (edgeIn rest) ≡ true)
+    Holds (joins (length (j .tasks)) (edgeIn rest)) × Holds (aboveLast (j .edges) (edgeIn rest))
 unfolding misfit
 link-fits j rest e = misfit-none (joins (length (j .tasks)) (edgeIn rest)) (aboveLast (j .edges) (edgeIn rest)) e
 
@@ -134,6 +136,6 @@ misfit-cause j link rest n e = go (joins (length (j .tasks)) (edgeIn rest)) (abo
   where
     go : (a b : Bool) → joins (length (j .tasks)) (edgeIn rest) ≡ a → aboveLast (j .edges) (edgeIn rest) ≡ b →
         pick (not a) 6 (pick (not b) 7 0) ≡ suc n → Cause rest j (some link) (suc n)
-    go false b ha hb q = rw (← q) (bad-ends ha)
-    go true false ha hb q = rw (← q) (not-above hb)
+    go false b ha hb q = rw (← q) (bad-ends (when-false ha))
+    go true false ha hb q = rw (← q) (not-above (when-false hb))
     go true true ha hb q = let z : ⊥ = omega arith in absurd z

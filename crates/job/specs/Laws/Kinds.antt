@@ -1,5 +1,5 @@
 -- What a kind byte names, and a record whose kind may not stand where it does: 3, or 2 where the kind is unknown.
-use mathlib.Core.Bool.{Bool, true, false}
+use mathlib.Core.Bool.{Bool, true, false, not}
 use mathlib.Core.Path.{_≡_, refl, ap, _∙_}
 use mathlib.Core.List.{List}
 use mathlib.Core.Option.{Option, none, some}
@@ -7,6 +7,7 @@ use Prim.Native.Nat.{ℕ, suc, _<_}
 use native.Mathlib.Omega.{arith}
 use borrow.Author.Tests.{eqb-true}
 use lib.Dec.{eqb}
+use lib.Dec.{T as Holds}
 use lib.ListN.{length, getD, drop}
 use Rattle.base.specs.Choice.{pick}
 use Rattle.job.specs.Job.{Job}
@@ -46,14 +47,14 @@ kind-byte b k h = go b (kindOf b) (kind-at b) h
     go b o strange h = cc
 
 -- a record of a kind that may not stand after j
-pub misplaced-as : (o : Option Kind) (rest : List ℕ) (j : Job) (more : ℕ → Job → Answer) → ((k : Kind) → o ≡ some k → stands j k ≡ false) →
-    judged o rest j more ≡ refused (misplacedNumber o)
+pub misplaced-as : (o : Option Kind) (rest : List ℕ) (j : Job) (more : ℕ → Job → Answer) →
+    ((k : Kind) → o ≡ some k → Holds (not (stands j k))) → judged o rest j more ≡ refused (misplacedNumber o)
 unfolding judged misplacedNumber
 misplaced-as none rest j more h = refl
 misplaced-as (some k) rest j more h = misplaced k rest j more (h k refl)
 
 pub misplaced-at : (file : List ℕ) (at : ℕ) (j : Job) → at < length file →
-    ((k : Kind) → kindOf (getD file at 0) ≡ some k → stands j k ≡ false) →
+    ((k : Kind) → kindOf (getD file at 0) ≡ some k → Holds (not (stands j k))) →
     records (drop at file) 0 j ≡ refused (misplacedNumber (kindOf (getD file at 0)))
 misplaced-at file at j l h =
     at-record file at j l ∙ misplaced-as (kindOf (getD file at 0)) (drop (suc at) file) j (records (drop (suc at) file)) h

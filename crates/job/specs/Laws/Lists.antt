@@ -1,9 +1,10 @@
 -- Lists by place: what stands where the rest of a list begins, in a list with one entry more, and in a padded list.
-use mathlib.Core.Path.{_≡_, refl, ap, sym, subst, _∙_}
+use mathlib.Core.Path.{_≡_, refl, ap, subst, _∙_}
 use mathlib.Core.List.{List, [], _∷_, _++_, map}
-use mathlib.Core.Bool.{Bool, true, false}
+use mathlib.Core.Bool.{Bool, true, false, not}
 use Prim.Native.Nat.{ℕ, zero, suc, _-_, _≤_, _<_}
 use native.Mathlib.Omega.{arith}
+use lib.Dec.{T as Holds}
 use lib.ListN.{length, getD, drop, replicate, length-append, length-replicate, List·getD-map, List·getD-eq-default, length-map}
 use Rattle.base.specs.Laws.Lists.{zeros-at}
 use Rattle.base.specs.Laws.Tests.{impossible}
@@ -20,9 +21,9 @@ at-place (x ∷ l) (suc i) b rest e = let r = at-place l i b rest e in (omega ar
 
 -- a test that each entry passes, and one more
 abbrev pub Each : {A : Type 0} → (A → Bool) → A → List A → Type 0
-Each p d l = (i : ℕ) → i < length l → p (getD l i d) ≡ true
+Each p d l = (i : ℕ) → i < length l → Holds (p (getD l i d))
 
-pub each-more : {A : Type 0} (p : A → Bool) (d : A) (l : List A) (a : A) → Each p d l → p a ≡ true → Each p d (l ++ (a ∷ []))
+pub each-more : {A : Type 0} (p : A → Bool) (d : A) (l : List A) (a : A) → Each p d l → Holds (p a) → Each p d (l ++ (a ∷ []))
 each-more p d [] a h e zero lt = e
 each-more p d [] a h e (suc i) lt = let n : ⊥ = omega arith in absurd n
 each-more p d (x ∷ l) a h e zero lt = h 0 (omega arith)
@@ -30,9 +31,9 @@ each-more p d (x ∷ l) a h e (suc i) lt = each-more p d l a (λ k g. h (suc k) 
 
 -- edges each above the one before, and one more above the last
 abbrev pub Rising : Edge → List Edge → Type 0
-Rising d l = (i : ℕ) → suc i < length l → rises (getD l i d) (getD l (suc i) d) ≡ true
+Rising d l = (i : ℕ) → suc i < length l → Holds (rises (getD l i d) (getD l (suc i) d))
 
-pub rising-more : (d : Edge) (l : List Edge) (a : Edge) → Rising d l → aboveLast l a ≡ true → Rising d (l ++ (a ∷ []))
+pub rising-more : (d : Edge) (l : List Edge) (a : Edge) → Rising d l → Holds (aboveLast l a) → Rising d (l ++ (a ∷ []))
 unfolding aboveLast
 rising-more d [] a h o i lt = let n : ⊥ = omega arith in absurd n
 rising-more d (x ∷ []) a h o zero lt = o
@@ -66,18 +67,18 @@ module _ (f : Edge → ℕ) (d : Edge) (z : f d ≡ 0) (es : List Edge) where
   column-spare i h = column-at i ∙ ap f (List·getD-eq-default es d h) ∙ z
 
 -- a list is empty if its length is 0, and only then
-pub empty-nil : {A : Type 0} (xs : List A) → empty xs ≡ true → xs ≡ []
-empty-nil [] e = refl
-empty-nil (x ∷ xs) e = cc
+pub empty-nil : {A : Type 0} (xs : List A) → Holds (empty xs) → xs ≡ []
+empty-nil [] h = refl
+empty-nil (x ∷ xs) h = absurd h
 
-pub some-in : {A : Type 0} (xs : List A) → empty xs ≡ false → 1 ≤ length xs
-some-in [] e = impossible (sym e)
-some-in (x ∷ xs) e = omega arith
+pub some-in : {A : Type 0} (xs : List A) → Holds (not (empty xs)) → 1 ≤ length xs
+some-in [] h = absurd h
+some-in (x ∷ xs) h = omega arith
 
-pub empty-is : {A : Type 0} (xs : List A) → length xs ≡ 0 → empty xs ≡ true
-empty-is [] h = refl
+pub empty-is : {A : Type 0} (xs : List A) → length xs ≡ 0 → Holds (empty xs)
+empty-is [] h = tt
 empty-is (x ∷ xs) h = let n : ⊥ = omega arith in absurd n
 
-pub empty-not : {A : Type 0} (xs : List A) → (length xs ≡ 0 → ⊥) → empty xs ≡ false
+pub empty-not : {A : Type 0} (xs : List A) → (length xs ≡ 0 → ⊥) → Holds (not (empty xs))
 empty-not [] h = absurd (h refl)
-empty-not (x ∷ xs) h = refl
+empty-not (x ∷ xs) h = tt

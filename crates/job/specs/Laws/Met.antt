@@ -8,7 +8,7 @@ use native.Mathlib.Omega.{arith}
 use lib.Dec.{leb}
 use lib.ListN.{length, getD}
 use Rattle.base.specs.Choice.{pick}
-use Rattle.base.specs.Laws.Tests.{impossible}
+use Rattle.base.specs.Laws.Tests.{impossible, when-true, when-false}
 use Rattle.base.specs.Laws.Values.{length-values, each-value}
 use Rattle.job.specs.declared.Arrays.{Arrays}
 use Rattle.job.specs.declared.Platform.{Platform}
@@ -98,15 +98,15 @@ module _ (j : Job) (w : Writable j) where
     where
       go : (b : Bool) → empty (j .tasks) ≡ b → records (flatMap stepBytes (j .tasks) ++ links) 0 (withRack blank (j .platform)) ≡
           refusedOr (firstOf (pick b 3 0) (firstOf (stepsTrouble (j .tasks)) (linksTrouble (length (j .tasks)) 0 (j .edges)))) (accepted j)
-      go true e = rw (empty-nil (j .tasks) e) (untasked (j .platform) n (j .edges))
+      go true e = rw (empty-nil (j .tasks) (when-true e)) (untasked (j .platform) n (j .edges))
       go false e =
           let i : Job = withTasks (withRack blank (j .platform)) (j .tasks) in
-          let d : LinkDue i (length (j .tasks)) 0 0 = first-link i (length (j .tasks)) (some-in (j .tasks) e) refl refl in
+          let d : LinkDue i (length (j .tasks)) 0 0 = first-link i (length (j .tasks)) (some-in (j .tasks) (when-false e)) refl refl in
           read-steps (withRack blank (j .platform)) 0 (j .tasks) links (first-step (j .platform) n) (w .duration-fits)
           (omega (arith, w .few-tasks))
           ∙ ap (refusedOr (stepsTrouble (j .tasks)))
           (read-links i (length (j .tasks)) 0 0 (j .edges) (4 ∷ []) d (w .edge-fits) (omega (arith, w .few-edges))
-          ∙ ap (refusedOr (linksTrouble (length (j .tasks)) 0 (j .edges))) (read-end j (simp e)))
+          ∙ ap (refusedOr (linksTrouble (length (j .tasks)) 0 (j .edges))) (read-end j (when-false e)))
           ∙ sym (first-met (stepsTrouble (j .tasks)) (linksTrouble (length (j .tasks)) 0 (j .edges)) (accepted j))
 
   pub met : Met j (jobTrouble j)
@@ -181,5 +181,6 @@ writer-numbers p m l a out n h e = go (tooMany m l) refl e
         ((3 ≤ n) × (n ≤ 7)) ⊎ (n ≡ 9)
     go true hb q = let z : 5 ≡ n = cc in inl (omega arith)
     go false hb q =
-        ⊎-elim (λ r. inl (met-refused (jobTrouble j) n j (job-number j) (sym (met j (held-writable p m l a (few-counts m l hb) h)) ∙ r)))
+        let w = held-writable p m l a (few-counts m l (when-false hb)) h in
+        ⊎-elim (λ r. inl (met-refused (jobTrouble j) n j (job-number j) (sym (met j w) ∙ r)))
         (λ r. inr (r .0)) (room-refused n (fileOf j) out (readJob (fileOf j)) q)

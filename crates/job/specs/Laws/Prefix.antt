@@ -1,18 +1,19 @@
 -- How much of a file settles its answer: a record is judged by its body, and by whether a byte is left at the end record, so the bytes
 -- that the records still to come can have are enough (`need`). By induction on the file.
 use mathlib.Core.Bool.{Bool, true, false, not}
-use mathlib.Core.Logic.{⊎-elim}
+use mathlib.Core.Logic.{_⊎_, inl, inr, ⊎-elim}
 use mathlib.Core.Path.{_≡_, refl, _∙_, sym}
 use mathlib.Core.List.{List, [], _∷_}
 use mathlib.Core.Option.{Option, none, some}
 use Prim.Native.Nat.{ℕ, zero, suc, _+_, _*_, _-_, _<_, _≤_}
 use native.Mathlib.Omega.{arith}
-use borrow.Author.Tests.{leb-false, lt-ltb, le-ltb, ne-eqb}
-use lib.Dec.{ltb}
+use borrow.Author.Tests.{lt-ltb, le-ltb, ne-eqb}
+use lib.Dec.{ltb, nleb→lt}
+use lib.Dec.{T as Holds}
 use lib.ListN.{length, take, length-append, length-take}
 use lib.Seq.{take-nil, take-take, getD-take}
 use Rattle.base.specs.Choice.{pick}
-use Rattle.base.specs.Laws.Tests.{lt-or-ge}
+use Rattle.base.specs.Laws.Tests.{lt-or-ge, either, is-true}
 use Rattle.job.specs.Job.{Job, blank}
 use Rattle.job.specs.Record.{Kind, rack, step, link, end, kindOf, bodyLength, empty, noRack, stands, full, inRange, misfit, added}
 use Rattle.job.specs.Record.{platformIn, durationIn, edgeIn}
@@ -71,10 +72,10 @@ same n rest j link h = let e : edgeIn (take n rest) ≡ edgeIn rest = edge-prefi
 same n rest j end h = record { range = refl; fit = refl; more = refl }
 
 -- the tests lead to the same answer, if what follows them is the same
-through : (s f l r : Bool) (n : ℕ) (x y : Answer) → (r ≡ true → x ≡ y) →
+through : (s f l r : Bool) (n : ℕ) (x y : Answer) → (Holds r → x ≡ y) →
     pick (not s) (refused 3) (pick f (refused 5) (pick l (refused 1) (pick (not r) (refused 4) (refusedOr n x))))
     ≡ pick (not s) (refused 3) (pick f (refused 5) (pick l (refused 1) (pick (not r) (refused 4) (refusedOr n y))))
-through s f l true n x y h = rw (h refl)
+through s f l true n x y h = rw (h tt)
 through s f l false n x y h = refl
 
 at-least : (b : Bool) → 2 ≤ pick b 6 2
@@ -84,28 +85,28 @@ at-least false = omega arith
 -- one record, where what is left is settled by as many bytes as it needs
 module _ (n : ℕ) (rest : List ℕ) (j : Job) (h : need j ≤ suc n)
     (ih : (s : ℕ) (i : Job) → s + need i ≤ n → records (take n rest) s i ≡ records rest s i) where
-  body-inside : (k : Kind) → stands j k ≡ true → full j k ≡ false → bodyLength k ≤ n
+  body-inside : (k : Kind) → Holds (stands j k) → Holds (not (full j k)) → bodyLength k ≤ n
   unfolding need stands full bodyLength
-  body-inside rack s f = omega (arith, rw s at h)
-  body-inside step s f = omega (arith, leb-false 256 (length (j .tasks)) f)
-  body-inside link s f = omega (arith, leb-false 1024 (length (j .edges)) f)
+  body-inside rack s f = omega (arith, rw (is-true (noRack j) s) at h)
+  body-inside step s f = omega (arith, nleb→lt 256 (length (j .tasks)) f)
+  body-inside link s f = omega (arith, nleb→lt 1024 (length (j .edges)) f)
   body-inside end s f = omega arith
 
-  left-inside : (k : Kind) → stands j k ≡ true → full j k ≡ false → inRange k rest ≡ true → 1 ≤ bodyLength k →
+  left-inside : (k : Kind) → Holds (stands j k) → Holds (not (full j k)) → Holds (inRange k rest) → 1 ≤ bodyLength k →
       bodyLength k + need (added j k rest) ≤ n
   unfolding need stands full bodyLength inRange added noRack
   left-inside rack s f r b =
       let p : 1 ≤ platformIn rest .processors = platform-facts (platformIn rest) r .0 in
-      rw (ne-eqb (platformIn rest .processors) 0 (λ z. omega arith)) (omega (arith, rw s at h))
-  left-inside step s f r b = rw (length-append (j .tasks) (durationIn rest ∷ [])) (omega (arith, leb-false 256 (length (j .tasks)) f))
-  left-inside link s f r b = rw (length-append (j .edges) (edgeIn rest ∷ [])) (omega (arith, leb-false 1024 (length (j .edges)) f))
+      rw (ne-eqb (platformIn rest .processors) 0 (λ z. omega arith)) (omega (arith, rw (is-true (noRack j) s) at h))
+  left-inside step s f r b = rw (length-append (j .tasks) (durationIn rest ∷ [])) (omega (arith, nleb→lt 256 (length (j .tasks)) f))
+  left-inside link s f r b = rw (length-append (j .edges) (edgeIn rest ∷ [])) (omega (arith, nleb→lt 1024 (length (j .edges)) f))
   left-inside end s f r b = absurd (omega arith)
 
-  more-same : (k : Kind) → stands j k ≡ true → full j k ≡ false → inRange k rest ≡ true → 1 ≤ bodyLength k →
+  more-same : (k : Kind) → Holds (stands j k) → Holds (not (full j k)) → Holds (inRange k rest) → 1 ≤ bodyLength k →
       records (take n rest) (bodyLength k) (added j k (take n rest)) ≡ records rest (bodyLength k) (added j k rest)
   more-same k s f r b = rw (same n rest j k (body-inside k s f) .more) (ih (bodyLength k) (added j k rest) (left-inside k s f r b))
 
-  after-same : (k : Kind) → stands j k ≡ true → full j k ≡ false → inRange k rest ≡ true →
+  after-same : (k : Kind) → Holds (stands j k) → Holds (not (full j k)) → Holds (inRange k rest) →
       after k (take n rest) j (records (take n rest)) ≡ after k rest j (records rest)
   unfolding after bodyLength need
   after-same rack s f r = more-same rack s f r (omega arith)
@@ -116,17 +117,17 @@ module _ (n : ℕ) (rest : List ℕ) (j : Job) (h : need j ≤ suc n)
   judged-same : (o : Option Kind) → judged o (take n rest) j (records (take n rest)) ≡ judged o rest j (records rest)
   unfolding judged
   judged-same none = refl
-  judged-same (some k) = go (stands j k) (full j k) refl refl
+  judged-same (some k) = go (either (stands j k)) (either (full j k))
     where
-      go : (s f : Bool) → stands j k ≡ s → full j k ≡ f → judged (some k) (take n rest) j (records (take n rest)) ≡
-          judged (some k) rest j (records rest)
-      go false f hs hf = misplaced k (take n rest) j (records (take n rest)) hs ∙ sym (misplaced k rest j (records rest) hs)
-      go true true hs hf = crowded k (take n rest) j (records (take n rest)) hs hf ∙ sym (crowded k rest j (records rest) hs hf)
-      go true false hs hf =
-          let b : bodyLength k ≤ n = body-inside k hs hf in
+      go : Holds (stands j k) ⊎ Holds (not (stands j k)) → Holds (full j k) ⊎ Holds (not (full j k)) →
+          judged (some k) (take n rest) j (records (take n rest)) ≡ judged (some k) rest j (records rest)
+      go (inr s) f = misplaced k (take n rest) j (records (take n rest)) s ∙ sym (misplaced k rest j (records rest) s)
+      go (inl s) (inl f) = crowded k (take n rest) j (records (take n rest)) s f ∙ sym (crowded k rest j (records rest) s f)
+      go (inl s) (inr f) =
+          let b : bodyLength k ≤ n = body-inside k s f in
           let e : Same (take n rest) rest j k = same n rest j k b in
           rw (short-prefix (bodyLength k) n rest b, e .range, e .fit)
-          (through (stands j k) (full j k) (ltb (length rest) (bodyLength k)) (inRange k rest) (misfit j k rest) _ _ (after-same k hs hf))
+          (through (stands j k) (full j k) (ltb (length rest) (bodyLength k)) (inRange k rest) (misfit j k rest) _ _ (after-same k s f))
 
 -- so many bytes are enough
 enough : (xs : List ℕ) (s n : ℕ) (j : Job) → s + need j ≤ n → records (take n xs) s j ≡ records xs s j

@@ -5,12 +5,13 @@ use mathlib.Core.Path.{_≡_, refl, ap, _∙_, sym}
 use mathlib.Core.List.{List, [], _∷_, _++_, append-assoc, append-nil, flatMap}
 use Prim.Native.Nat.{ℕ, zero, suc, _≤_}
 use native.Mathlib.Omega.{arith}
-use borrow.Author.Tests.{eqb-true, le-ltb}
-use lib.Dec.{eqb}
+use borrow.Author.Tests.{le-ltb}
+use lib.Dec.{eqb, eqb→eq}
+use lib.Dec.{T as Holds}
 use lib.ListN.{length, take, drop, take-append-drop}
 use lib.Seq.{length-take-le}
 use Rattle.base.specs.Number.{number, bytes, Bytes, none, more}
-use Rattle.base.specs.Laws.Tests.{impossible, and-true}
+use Rattle.base.specs.Laws.Tests.{impossible, second}
 use Rattle.base.specs.Laws.Number.{bytes-number}
 use Rattle.base.specs.Laws.Stored.{flat-append}
 use Rattle.job.specs.declared.Platform.{Platform}
@@ -79,17 +80,17 @@ grown rack rest j bs h b f start =
     let p : Platform = platformIn rest in
     under-way (platform-facts p (f .ranges) .0) (sym (rack-bytes rest (f .whole)) ∙ sym (append-nil (rackBytes p)))
 grown rack rest j bs h b f (under-way n e) =
-    let z : j .platform .processors ≡ 0 = eqb-true (j .platform .processors) 0 (f .placed) in absurd (omega arith)
-grown step rest j bs h b f start = impossible (f .placed)
+    let z : j .platform .processors ≡ 0 = eqb→eq (j .platform .processors) 0 (f .placed) in absurd (omega arith)
+grown step rest j bs h b f start = absurd (f .placed)
 grown step rest j bs h b f (under-way n e) =
     let d : ℕ = durationIn rest in
     let steps : List ℕ = flatMap stepBytes (j .tasks) in
-    let none : j .edges ≡ [] = empty-nil (j .edges) (and-true (not (eqb (j .platform .processors) 0)) (empty (j .edges)) (f .placed) .1) in
+    let none : j .edges ≡ [] = empty-nil (j .edges) (second (not (eqb (j .platform .processors) 0)) (empty (j .edges)) (f .placed)) in
     let q : bs ++ (2 ∷ take 4 rest) ≡ bytesOf (withTasks j (d ∷ [])) =
     rw (e, none, ← step-bytes rest b (f .whole), append-nil steps, flatMap-more stepBytes (j .tasks) d, append-nil (steps ++ stepBytes d))
     (simp append-assoc) in
     under-way n q
-grown link rest j bs h b f start = impossible (f .placed)
+grown link rest j bs h b f start = absurd (f .placed)
 grown link rest j bs h b f (under-way n e) =
     let x : Edge = edgeIn rest in
     let steps : List ℕ = flatMap stepBytes (j .tasks) in
@@ -101,9 +102,9 @@ grown link rest j bs h b f (under-way n e) =
 grown end rest j bs h b f r = absurd (omega arith)
 
 -- the end record closes the file of the job so far
-closes : (j : Job) (bs : List ℕ) → stands j end ≡ true → ReadFrom j bs → bs ++ (4 ∷ []) ≡ fileOf j
+closes : (j : Job) (bs : List ℕ) → Holds (stands j end) → ReadFrom j bs → bs ++ (4 ∷ []) ≡ fileOf j
 unfolding stands blank fileOf
-closes j bs s start = impossible s
+closes j bs s start = absurd s
 closes j bs s (under-way n e) = rw e (simp append-assoc)
 
 -- the bytes read so far and those that are left are the file of the accepted job

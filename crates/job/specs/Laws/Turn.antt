@@ -10,6 +10,7 @@ use borrow.Author.Tests.{ltb-true, ltb-false}
 use lib.Dec.{ltb}
 use lib.ListN.{length, drop}
 use Rattle.base.specs.Choice.{pick}
+use Rattle.base.specs.Laws.Tests.{when-true, when-false}
 use Rattle.job.specs.Job.{Job}
 use Rattle.job.specs.Record.{Kind, rack, step, link, end, kindOf, bodyLength, stands, full, inRange, misfit, added}
 use Rattle.job.specs.Read.{Answer, accepted, refused, refusedOr, after, judged, records}
@@ -29,7 +30,7 @@ fitted rack rest j more f = goes-on rack (omega arith) f
 fitted step rest j more f = goes-on step (omega arith) f
 fitted link rest j more f = goes-on link (omega arith) f
 fitted end [] j more f = is-end f refl
-fitted end (b ∷ rest) j more f = halts (bytes-after refl)
+fitted end (b ∷ rest) j more f = halts (bytes-after tt)
 
 pub turn : (o : Option Kind) (rest : List ℕ) (j : Job) (more : ℕ → Job → Answer) → Turn rest j more o (judged o rest j more)
 unfolding judged
@@ -40,13 +41,19 @@ turn (some k) rest j more = go (stands j k) (full j k) (ltb (length rest) (bodyL
     go : (s f l r : Bool) (n : ℕ) → stands j k ≡ s → full j k ≡ f → ltb (length rest) (bodyLength k) ≡ l → inRange k rest ≡ r →
         misfit j k rest ≡ n → Turn rest j more (some k) (pick (not s) (refused 3) (pick f (refused 5) (pick l (refused 1)
         (pick (not r) (refused 4) (refusedOr n (after k rest j more))))))
-    go false f l r n hs hf hl hr hn = halts (misplaced hs)
-    go true true l r n hs hf hl hr hn = halts (too-many hf)
+    go false f l r n hs hf hl hr hn = halts (misplaced (when-false hs))
+    go true true l r n hs hf hl hr hn = halts (too-many (when-true hf))
     go true false true r n hs hf hl hr hn = halts (cut (ltb-true _ _ hl))
-    go true false false false n hs hf hl hr hn = halts (out-of-range hr)
+    go true false false false n hs hf hl hr hn = halts (out-of-range (when-false hr))
     go true false false true (suc n) hs hf hl hr hn = halts (misfit-cause j k rest n hn)
     go true false false true zero hs hf hl hr hn =
-        fitted k rest j more (record { placed = hs; room = hf; whole = ltb-false _ _ hl; ranges = hr; fits = hn })
+        fitted k rest j more (record {
+          placed = when-true hs;
+          room = when-false hf;
+          whole = ltb-false _ _ hl;
+          ranges = when-true hr;
+          fits = hn;
+        })
 
 -- the answer to the bytes that are left, after the job so far
 pub data Reads : List ℕ → Job → Answer → Type 0 where

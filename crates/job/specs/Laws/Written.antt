@@ -1,15 +1,16 @@
 -- The file of a job has the length that document 01 gives it, what the writer's answer tells, and that a job that is taken is read back.
-use mathlib.Core.Bool.{Bool, true, false}
+use mathlib.Core.Bool.{Bool, true, false, not}
 use mathlib.Core.Path.{_≡_, refl, ap, _∙_, sym}
 use mathlib.Core.List.{List, flatMap}
 use Prim.Native.Nat.{ℕ, _+_, _*_, _≤_}
 use native.Mathlib.Omega.{arith}
 use borrow.Author.Tests.{ltb-false}
 use lib.Dec.{ltb}
+use lib.Dec.{T as Holds}
 use lib.ListN.{length, take, drop, length-append}
 use lib.Seq.{take-at}
 use Rattle.base.specs.Choice.{pick}
-use Rattle.base.specs.Laws.Tests.{impossible}
+use Rattle.base.specs.Laws.Tests.{impossible, when-false}
 use Rattle.base.specs.Laws.Stored.{flat-size}
 use Rattle.job.specs.declared.Written.the-variants.{Length, Refused}
 use Rattle.job.specs.Job.{Job}
@@ -28,7 +29,7 @@ file-size j =
 
 -- what holds where the writer takes a job
 pub record Takes (m l n : ℕ) (j : Job) (out : List ℕ) : Type 0 where
-  pub few : tooMany m l ≡ false
+  pub few : Holds (not (tooMany m l))
   pub size : n ≡ length (fileOf j)
   pub room : n ≤ length out
   pub job : Job
@@ -47,7 +48,7 @@ takes m l n j out e = go (tooMany m l) (readJob (fileOf j)) (ltb (length out) (l
         let q : Length (length (fileOf j)) ≡ Length n = rw hr at h in
         let z : n ≡ length (fileOf j) = cc in
         record {
-          few = hb;
+          few = when-false hb;
           size = z;
           room = omega (arith, ltb-false (length out) (length (fileOf j)) hr);
           job = i;
@@ -55,7 +56,7 @@ takes m l n j out e = go (tooMany m l) (readJob (fileOf j)) (ltb (length out) (l
         }
 
 -- a job that the writer takes, written out and read, is the same job
-pub read-back : (j : Job) (out : List ℕ) (m l n : ℕ) → (tooMany m l ≡ false → Writable j) →
+pub read-back : (j : Job) (out : List ℕ) (m l n : ℕ) → (Holds (not (tooMany m l)) → Writable j) →
     writeAnswer m l j out ≡ Length n → readJob (take n (writeOut (Length n) j out)) ≡ accepted j
 unfolding writeOut
 read-back j out m l n w e =

@@ -1,13 +1,14 @@
 -- `parse::end`: each return is the judgement of what stands at this place, where nothing but the end record may stand.
-use mathlib.Core.Bool.{true}
 use mathlib.Core.Logic.{⊎-elim}
-use mathlib.Core.Path.{_≡_, refl, ap, sym, _∙_}
+use mathlib.Core.Path.{_≡_, ap, sym, _∙_}
 use mathlib.Core.List.{List}
 use Prim.Native.Nat.{ℕ, suc, _+_, _≤_, _<_}
 use native.Mathlib.Omega.{arith}
 use borrow.Author.Needs.{needs, zero≤}
+use lib.Dec.{T as Holds}
 use lib.ListN.{length, getD, drop, length-drop}
 use Rattle.base.specs.Choice.{pick}
+use Rattle.base.specs.Laws.Tests.{pick-yes, pick-no}
 use Rattle.job.specs.Job.{Job}
 use Rattle.job.specs.Record.{end, kindOf, bodyLength, empty, stands, full, inRange, misfit}
 use Rattle.job.specs.Read.{accepted, refused, after, records}
@@ -30,18 +31,21 @@ module _ (file : List ℕ) (at : ℕ) where
         ∙ rw (← i) (sym (stops n (accepted j) (λ q. misplaced-some (kindOf (getD file at 0)) (sym i ∙ q))))
 
     module _ (is : getD file at 0 ≡ 4) where
-      closing : (j : Job) → stands j end ≡ true → records (drop at file) 0 j ≡ pick (empty (drop (suc at) file)) (accepted j) (refused 8)
+      closing : (j : Job) → Holds (stands j end) → records (drop at file) 0 j ≡ pick (empty (drop (suc at) file)) (accepted j) (refused 8)
       unfolding kindOf full bodyLength inRange misfit after
       closing j s =
-          at-record file at j h ∙ rw is (whole end (drop (suc at) file) j (records (drop (suc at) file)) s refl
+          at-record file at j h ∙ rw is (whole end (drop (suc at) file) j (records (drop (suc at) file)) s tt
           (zero≤ {n = length (drop (suc at) file)}))
 
       more-bytes : at + 1 < length file → EndPassed file at 8
-      more-bytes l j s = closing j (s .placed) ∙ simp (empty-not (drop (suc at) file) (λ z. let w : length (drop (suc at) file) ≡ 0 = z in
-          omega (arith, length-drop (suc at) file)))
+      more-bytes l j s =
+          let left = empty-not (drop (suc at) file) (λ z. omega (arith, length-drop (suc at) file)) in
+          closing j (s .placed) ∙ pick-no (empty (drop (suc at) file)) (accepted j) (refused 8) left
 
       done : length file ≤ at + 1 → EndPassed file at 0
-      done l j s = closing j (s .placed) ∙ simp (empty-is (drop (suc at) file) (length-drop (suc at) file ∙ omega arith))
+      done l j s =
+          let none = empty-is (drop (suc at) file) (length-drop (suc at) file ∙ omega arith) in
+          closing j (s .placed) ∙ pick-yes (empty (drop (suc at) file)) (accepted j) (refused 8) none
 
 returns : tie.Need-returns
 returns c = nothing _ _ (c .if1 .taken)

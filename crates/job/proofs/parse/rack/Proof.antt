@@ -1,11 +1,12 @@
 -- `parse::rack`: each return is the judgement of the file's first record, after nothing.
-use mathlib.Core.Bool.{false}
-use mathlib.Core.Path.{_≡_, refl, ap, sym, _∙_}
+use mathlib.Core.Bool.{not}
+use mathlib.Core.Path.{_≡_, ap, sym, _∙_}
 use mathlib.Core.List.{List}
 use mathlib.Core.Option.{some}
 use Prim.Native.Nat.{ℕ, _≤_, _<_}
 use native.Mathlib.Omega.{arith}
 use borrow.Author.Needs.{needs}
+use lib.Dec.{T as Holds}
 use lib.ListN.{length, getD, drop}
 use lib.Seq.{getD-drop}
 use Rattle.job.specs.declared.Platform.{Platform}
@@ -34,12 +35,12 @@ module _ (file : List ℕ) (p : Platform) where
   unfolding readJob
   nothing h = refuse file 1 p 0 (λ e. omega arith) (at-end file 0 blank (omega arith))
 
-  first : (b : ℕ) → (b ≡ 1 → ⊥) → (k : Kind) → kindOf b ≡ some k → stands blank k ≡ false
+  first : (b : ℕ) → (b ≡ 1 → ⊥) → (k : Kind) → kindOf b ≡ some k → Holds (not (stands blank k))
   unfolding stands noRack blank
   first b z rack e = absurd (z (kind-byte b rack e))
-  first b z step e = refl
-  first b z link e = refl
-  first b z end e = refl
+  first b z step e = tt
+  first b z link e = tt
+  first b z end e = tt
 
   module _ (h : 0 < length file) where
     other : (getD file 0 0 ≡ 1 → ⊥) → (n : ℕ) → n ≡ misplacedNumber (kindOf (getD file 0 0)) →
@@ -52,7 +53,7 @@ module _ (file : List ℕ) (p : Platform) where
     module _ (is : getD file 0 0 ≡ 1) where
       cut : length file < 4 → RackPassed file (record { trouble = 1; platform = p; next = 0 })
       unfolding readJob kindOf stands noRack full bodyLength blank
-      cut l = refuse file 1 p 0 (λ e. omega arith) (short-at file 0 blank rack h (rw is) refl refl (omega arith))
+      cut l = refuse file 1 p 0 (λ e. omega arith) (short-at file 0 blank rack h (rw is) tt tt (omega arith))
 
 module _ (file : List ℕ) (h : 4 ≤ length file) (is : getD file 0 0 ≡ 1) where
   abbrev there : Platform
@@ -64,7 +65,7 @@ module _ (file : List ℕ) (h : 4 ≤ length file) (is : getD file 0 0 ≡ 1) wh
 
   judged : readJob file ≡ refusedOr (platformTrouble there) (records (drop 4 file) 0 (withRack blank there))
   unfolding readJob kindOf stands noRack full bodyLength inRange misfit added platformTrouble blank
-  judged = rw platform-is at (whole-at file 0 blank rack (omega arith) (rw is) refl refl (omega arith) h)
+  judged = rw platform-is at (whole-at file 0 blank rack (omega arith) (rw is) tt tt (omega arith) h)
 
   found : (t : ℕ) → t ≡ platformTrouble there → RackPassed file (record { trouble = t; platform = there; next = 4 })
   found t i = record { answer = rw i judged; inside = λ z. h; some-processor = λ z. racked there (sym i ∙ z) }

@@ -4,19 +4,18 @@ use mathlib.Core.List.{List}
 use Prim.Native.Nat.{ℕ, _≤_, _<_}
 use native.Mathlib.Omega.{arith}
 use borrow.Author.Needs.{needs}
-use borrow.Author.Tests.{eqb-true, eqb-false}
-use lib.Dec.{eqb}
+use lib.Dec.{eqb, eqb→eq}
 use lib.ListN.{length, getD}
-use Rattle.base.specs.Laws.Tests.{impossible}
+use Rattle.base.specs.Laws.Tests.{neqb→ne}
 use Rattle.job.specs.Pass.{StandsThere}
 use Rattle.job.proofs.parse.stands.Statement.{statement}
 use Rattle.job.proofs.parse.stands.Tie as tie
 
 past : (file : List ℕ) (at kind : ℕ) → length file ≤ at → StandsThere file at kind false
-past file at kind h = record { yes = λ e. impossible e; no = λ e l. let n : ⊥ = omega arith in absurd n }
+past file at kind h = record { yes = λ t. absurd t; no = λ t l. let n : ⊥ = omega arith in absurd n }
 
 there : (file : List ℕ) (at kind : ℕ) → at < length file → StandsThere file at kind (eqb (getD file at 0) kind)
-there file at kind h = record { yes = λ e. (h, eqb-true _ _ e); no = λ e l. eqb-false _ _ e }
+there file at kind h = record { yes = λ t. (h, eqb→eq _ _ t); no = λ t l. neqb→ne _ _ t }
 
 returns : tie.Need-returns
 returns c = past _ _ _ (c .if1 .taken)

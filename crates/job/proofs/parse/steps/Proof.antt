@@ -8,6 +8,7 @@ use native.Mathlib.Omega.{arith}
 use borrow.Author.Needs.{needs}
 use lib.ListN.{length, getD, drop, set, replicate}
 use Rattle.base.specs.Lists.{values}
+use Rattle.base.specs.Laws.Tests.{when-true, when-false}
 use Rattle.base.specs.Laws.Values.{length-values}
 use Rattle.job.specs.declared.parse.FoundStep.{FoundStep}
 use Rattle.job.specs.Job.{Job, withTasks}
@@ -110,7 +111,7 @@ stands-requires c κs = search needs
 step-requires : tie.Need-step-requires Inv-loop μ-loop
 unfolding kindOf
 step-requires c κs =
-    let t = c .before .stands .ensures .yes (c .if1 .taken) in
+    let t = c .before .stands .ensures .yes (when-true (c .if1 .taken)) in
     (t .0, rw (t .1), c .before .before .loop .inv .few)
 
 returns : tie.Need-returns Inv-loop μ-loop
@@ -153,7 +154,8 @@ returns-3 c =
     let at-stands = at-if1 .before in
     let at-loop = at-stands .before in
     none _ _ _ _ _ (at-loop .loop .inv) (at-if4 .before .if3 .left)
-    (at-stands .stands .ensures .no (at-if1 .if1 .left) (at-if4 .before .if3 .left)) (at-if4 .if4 .taken) _ (c .misplaced .ensures)
+    (at-stands .stands .ensures .no (when-false (at-if1 .if1 .left)) (at-if4 .before .if3 .left)) (at-if4 .if4 .taken)
+    _ (c .misplaced .ensures)
 
 returns-4 : tie.Need-returns-4 Inv-loop μ-loop
 returns-4 c =
@@ -161,7 +163,7 @@ returns-4 c =
     let at-stands = at-if3 .before .before in
     let at-loop = at-stands .before in
     done _ _ _ _ _ (at-loop .loop .inv) (at-if3 .if3 .left)
-    (at-stands .stands .ensures .no (at-if3 .before .if1 .left) (at-if3 .if3 .left)) (search needs)
+    (at-stands .stands .ensures .no (when-false (at-if3 .before .if1 .left)) (at-if3 .if3 .left)) (search needs)
 
 pub steps-spec : {M : Type 1} → statement M
 steps-spec =

@@ -3,6 +3,7 @@ use mathlib.Core.Path.{_≡_}
 use Prim.Native.Nat.{ℕ, _+_, _*_, _<_, _≤_}
 use native.Mathlib.Omega.{arith}
 use borrow.Author.Tests.{lt-ltb, le-ltb, le-leb, lt-leb}
+use Rattle.job.specs.Limits.{mostCount}
 use Rattle.job.specs.Record.{countInRange, joins}
 use Rattle.job.specs.Pass.{edge, key, linkTrouble}
 use borrow.Author.Needs.{needs}
@@ -14,19 +15,19 @@ module _ (m least f t n : ℕ) where
   unfolding linkTrouble countInRange
   low a = simp (lt-leb _ _ a)
 
-  high : 1 ≤ n → 1000 < n → 4 ≡ linkTrouble m least (edge f t n)
+  high : 1 ≤ n → mostCount < n → 4 ≡ linkTrouble m least (edge f t n)
   unfolding linkTrouble countInRange
   high a b = simp (le-leb _ _ a, lt-leb _ _ b)
 
-  backward : 1 ≤ n → n ≤ 1000 → t ≤ f → 6 ≡ linkTrouble m least (edge f t n)
+  backward : 1 ≤ n → n ≤ mostCount → t ≤ f → 6 ≡ linkTrouble m least (edge f t n)
   unfolding linkTrouble countInRange joins
   backward a b d = simp (le-leb _ _ a, le-leb _ _ b, le-ltb _ _ d)
 
-  absent : 1 ≤ n → n ≤ 1000 → f < t → m ≤ t → 6 ≡ linkTrouble m least (edge f t n)
+  absent : 1 ≤ n → n ≤ mostCount → f < t → m ≤ t → 6 ≡ linkTrouble m least (edge f t n)
   unfolding linkTrouble countInRange joins
   absent a b d e = simp (le-leb _ _ a, le-leb _ _ b, lt-ltb _ _ d, le-ltb _ _ e)
 
-  module _ (a : 1 ≤ n) (b : n ≤ 1000) (d : f < t) (e : t < m) (k : ℕ) (is : k ≡ 256 * f + t) where
+  module _ (a : 1 ≤ n) (b : n ≤ mostCount) (d : f < t) (e : t < m) (k : ℕ) (is : k ≡ 256 * f + t) where
     not-above : k < least → 7 ≡ linkTrouble m least (edge f t n)
     unfolding linkTrouble countInRange joins key
     not-above g =
