@@ -9,13 +9,14 @@ use Rattle.base.specs.Lists.{upto, any, all, filter, greatest, keep, best}
 use Rattle.job.specs.declared.Platform.{Platform}
 use Rattle.job.specs.Job.{Edge, Job}
 use Rattle.etf.specs.Instance.{Instance, duration, into, messageTime}
-use Rattle.etf.specs.Schedule.{Placement, placed, placementOf, finish, messageTimeTo, arrival, end, scheduleOf, byTask}
-use Rattle.etf.specs.Rule.{atMost, move, settle, nextMoment, free, finished, ready, pair, pairs, choice, complete, round, run, planned, roundsIn, rounds}
+use Rattle.etf.specs.Schedule.{Placement, placed, placementOf, finish, messageTimeTo, arrival, lastFinish, end, scheduleOf, byTask}
+use Rattle.etf.specs.Rule.{atMost, move, settle, nextMoment, free, finished, ready, pair, pairs, choice, complete, round, run}
+use Rattle.etf.specs.Rule.{planned, roundsIn, rounds}
 use Rattle.etf.specs.Cover.{running, busy, idle, someIdle, latestIdleTick, lowestIdle, later, latestInto, back, walk, lastTask, cover}
 use Rattle.etf.specs.Dearest.{greatestCost, dearestTo, dearest}
 use Rattle.etf.specs.Checker.{firstAnswer, misplaced, overlap, early, check}
-use Rattle.etf.specs.Topology.{hypercubeHops, difference, ringHops, hops, cost}
-use Rattle.etf.specs.OfJob.{instance}
+use Rattle.etf.specs.Topology.{hypercubeHops, difference, ringHops, hops, cost, square}
+use Rattle.etf.specs.OfJob.{costsOf, instance}
 
 -- what a case asks: the plan of a job, its plan with another priority order, the hops between two boards, the planner's rounds,
 -- or the checker's answer to a plan's boards and starts
@@ -26,7 +27,8 @@ pub data Question : Type 0 where
   roundsOf : Job → Question
   answerTo : Job → List ℕ → List ℕ → Question
 
--- the numbers that program `plan` prints after its header: of each task its number, processor, start and finish, then the end, C and the dearest chain
+-- the numbers that program `plan` prints after its header:
+-- of each task its number, processor, start and finish, then the end, C and the dearest chain
 pub printed : Instance → List (List ℕ)
 printed I =
     map (λ (u : Placement). u .task ∷ u .processor ∷ u .start ∷ finish I u ∷ []) (byTask I (planned I))
@@ -43,10 +45,11 @@ refusal (some k) = k
 
 -- the lines that answer a question; all definitions are opened, so that they compute
 pub answer : Question → List (List ℕ)
-unfolding printed instance upto any all filter greatest keep best duration into messageTime placed placementOf messageTimeTo arrival end
-    scheduleOf byTask atMost move settle nextMoment free finished ready pair pairs choice complete round run planned roundsIn rounds
+unfolding printed instance upto any all filter greatest keep best duration into messageTime
+    placed placementOf messageTimeTo arrival lastFinish end scheduleOf byTask
+    atMost move settle nextMoment free finished ready pair pairs choice complete round run planned roundsIn rounds
     running busy idle someIdle latestIdleTick lowestIdle later latestInto back walk lastTask cover greatestCost dearestTo dearest
-    firstAnswer misplaced overlap early check hypercubeHops difference ringHops hops cost bind orElse flatMap
+    firstAnswer misplaced overlap early check hypercubeHops difference ringHops hops cost square costsOf bind orElse flatMap
 answer (planOf j) = printed (instance j)
 answer (planBy order j) = printed (by order (instance j))
 answer (hopsOf r p q) = (hops r p q ∷ []) ∷ []
@@ -73,8 +76,10 @@ between r p q h = record { question = hopsOf r p q; lines = (h ∷ []) ∷ [] }
 
 -- the checker's answer to a plan for a job on two boards, flat, c = 2
 abbrev checked : List ℕ → List Edge → List ℕ → List ℕ → ℕ → Case
-checked steps links boards starts number =
-    record { question = answerTo (record { platform = rack 2 0 2; tasks = steps; edges = links }) boards starts; lines = (number ∷ []) ∷ [] }
+checked steps links boards starts number = record {
+  question = answerTo (record { platform = rack 2 0 2; tasks = steps; edges = links }) boards starts;
+  lines = (number ∷ []) ∷ [];
+}
 
 -- cases D, E, G and H: steps 3, 2, 2, links 0 to 1 and 0 to 2, on two processors wired flat
 abbrev fork : ℕ → List (List ℕ) → Case
@@ -132,7 +137,10 @@ further =
     -- one board: a link costs nothing, and the dearest chain is 0
     ∷ plan (rack 1 0 5) (1 ∷ 1 ∷ []) (link 0 1 3 ∷ []) (row 0 0 0 1 ∷ row 1 0 1 2 ∷ totals 2 0 0)
     -- a chain of 3 takes 5 rounds
-    ∷ record { question = roundsOf (record { platform = rack 2 0 1; tasks = 2 ∷ 1 ∷ 3 ∷ []; edges = link 0 1 1 ∷ link 1 2 1 ∷ [] }); lines = (5 ∷ []) ∷ [] }
+    ∷ record {
+      question = roundsOf (record { platform = rack 2 0 1; tasks = 2 ∷ 1 ∷ 3 ∷ []; edges = link 0 1 1 ∷ link 1 2 1 ∷ [] });
+      lines = (5 ∷ []) ∷ [];
+    }
     ∷ []
 
 -- the refusal table's small inputs of 10 to 13, and what stands beside their limits

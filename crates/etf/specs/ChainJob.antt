@@ -21,7 +21,11 @@ arrow T = record { from = T; to = suc T; count = 1 }
 
 -- m tasks of one tick, each with a message to the next, on n processors wired flat, c = 1
 unfoldable pub chainJob : ℕ → ℕ → Job
-chainJob n m = record { platform = record { processors = n; topology = 0; unit = 1 }; tasks = replicate m 1; edges = map arrow (upto (m - 1)) }
+chainJob n m = record {
+  platform = record { processors = n; topology = 0; unit = 1 };
+  tasks = replicate m 1;
+  edges = map arrow (upto (m - 1));
+}
 
 module _ (n m : ℕ) where
   abbrev one : ℕ

@@ -32,7 +32,8 @@ module _ (I : Instance) where
   abbrev pub InTime : Edge → Placement → Placement → Type 0
   InTime e u v = finish I u + messageTime I e (u .processor) (v .processor) ≤ v .start
 
-  -- the placements of a schedule keep the rules among themselves. A plan that is handed in is a `scheduleOf`, which gives each task one placement
+  -- the placements of a schedule keep the rules among themselves.
+  -- A plan that is handed in is a `scheduleOf`, which gives each task one placement
   pub record Keeps (ps : List Placement) : Type 0 where
     -- 01: "a board below n and a start of at most 600,000,000"
     pub on-processor : (u : Placement) → u ∈ ps → u .processor < I .processors
@@ -49,7 +50,8 @@ module _ (I : Instance) where
   -- 01: 12, "overlap on a board": two tasks on one processor, neither of which finishes by the other's start
   unfoldable pub overlap : Placement → Placement → Bool
   overlap u v =
-      not (eqb (u .task) (v .task)) && (eqb (u .processor) (v .processor) && not (leb (finish I u) (v .start) || leb (finish I v) (u .start)))
+      not (eqb (u .task) (v .task))
+      && (eqb (u .processor) (v .processor) && not (leb (finish I u) (v .start) || leb (finish I v) (u .start)))
 
   -- 01: 13, "start before a bundle is there": of edge e from u's task to v's
   unfoldable pub early : Edge → Placement → Placement → Bool

@@ -9,7 +9,7 @@ use Rattle.base.specs.Choice.{pick}
 use Rattle.base.specs.Lists.{_∈_, upto, any, filter, best}
 use Rattle.job.specs.Job.{Edge}
 use Rattle.etf.specs.Instance.{Instance, tasks, duration, into}
-use Rattle.etf.specs.Schedule.{Placement, placementOf, finish, messageTimeTo, reach, end}
+use Rattle.etf.specs.Schedule.{Placement, placementOf, finish, messageTimeTo, reach, lastFinish}
 use Rattle.etf.specs.Rule.{planned}
 
 -- something that starts at s and takes d is running in tick t, from t to t + 1
@@ -41,8 +41,8 @@ module _ (I : Instance) (ps : List Placement) where
 
   -- ---- any walk (02 §7)
 
-  -- 02 §7: "each idle board at that tick, and each predecessor whose bundle would reach it after that tick, would serve": what the walk may
-  -- do at task T; `tick` is the latest short tick before its start
+  -- 02 §7: "each idle board at that tick, and each predecessor whose bundle would reach it after that tick, would serve":
+  -- what the walk may do at task T; `tick` is the latest short tick before its start
   pub record MayGoBack (T : ℕ) (b : Back) : Type 0 where
     pub tick : ℕ
     pub is-latest : latestIdleTick (placementOf ps T .start) ≡ some tick
@@ -58,7 +58,7 @@ module _ (I : Instance) (ps : List Placement) where
   -- a task that finishes last, by which a walk begins
   pub record FinishesLast (T : ℕ) : Type 0 where
     pub below : T < tasks I
-    pub at-end : finish I (placementOf ps T) ≡ end I ps
+    pub at-last : finish I (placementOf ps T) ≡ lastFinish I ps
 
   -- ---- the walk of document 01
 
@@ -90,6 +90,7 @@ module _ (I : Instance) (ps : List Placement) where
   unfoldable pub lastTask : Option ℕ
   lastTask = best (λ S T. ltb (finish I (placementOf ps T)) (finish I (placementOf ps S))) (upto (tasks I))
 
--- C of the planner's schedule: the walk from its last task. Edges go from lower to higher tasks, so it goes back fewer than m times (`Walks.antt`).
+-- C of the planner's schedule: the walk from its last task.
+-- Edges go from lower to higher tasks, so it goes back fewer than m times (`Walks.antt`).
 unfoldable pub cover : Instance → ℕ
 cover I = elim (lastTask I (planned I)) [ none ↦ 0 | some T ↦ walk I (planned I) (tasks I) T ]

@@ -7,8 +7,9 @@ use lib.ListN.{length, getD}
 use Rattle.base.specs.Lists.{_∈_, filter}
 use Rattle.job.specs.Job.{Edge}
 
--- an instance of the planning problem: n `processors` (01: boards), the `durations` of the tasks (01: steps) from task 0 on, the `edges` (01: links).
--- `cost p q` is what one message takes from processor p to processor q, any function: the two ways may differ, and nothing is said of p to p.
+-- an instance of the planning problem:
+-- n `processors` (01: boards), the `durations` of the tasks (01: steps) from task 0 on, the `edges` (01: links).
+-- `cost p q` is what one message takes from processor p to q, any function: the two ways may differ, and nothing is said of p to p.
 -- `order` has the tasks by priority: of two that could start at one tick the one that stands first goes first.
 pub record Instance : Type 0 where
   pub processors : ℕ
@@ -30,7 +31,8 @@ module _ (I : Instance) where
   unfoldable pub into : ℕ → List Edge
   into T = filter (λ e. eqb (e .to) T) (I .edges)
 
-  -- the time of an edge's messages from processor p to q (01: "A message bundle takes its count times the cost from the sender's board to the receiver's")
+  -- the time of an edge's messages from processor p to q
+  -- (01: "A message bundle takes its count times the cost from the sender's board to the receiver's")
   unfoldable pub messageTime : Edge → ℕ → ℕ → ℕ
   messageTime e p q = e .count * I .cost p q
 
@@ -38,7 +40,8 @@ module _ (I : Instance) where
   abbrev pub TaskChain : Type 0
   TaskChain = (T : ℕ) → suc T < tasks → (e : Edge) × (e ∈ I .edges) × (e .from ≡ T) × (e .to ≡ suc T)
 
-  -- at least one processor and one task, durations of at least 1, edges from lower to higher tasks, and `order` has every task and nothing else
+  -- at least one processor and one task, durations of at least 1, edges from lower to higher tasks;
+  -- and `order` has every task and nothing else
   pub record WellFormed : Type 0 where
     pub some-processor : 1 ≤ I .processors
     pub some-task : 1 ≤ tasks

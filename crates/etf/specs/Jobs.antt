@@ -1,12 +1,11 @@
--- What holds of the instance of every accepted job: it is well formed, its times are bounded, and the checker accepts the planner's schedule.
+-- What holds of every accepted job's instance: it is well formed, its times are bounded, and the checker accepts the planner's schedule.
 -- `Accepted` (crate job) is all that is known of the job.
 use mathlib.Core.Path.{_≡_}
 use mathlib.Core.Option.{none}
-use mathlib.Core.List.{[]}
 use Prim.Native.Nat.{ℕ, _≤_, _<_}
 use native.Mathlib.Omega.{arith}
-use lib.ListN.{getD}
 use Rattle.base.specs.Lists.{_∈_}
+use Rattle.job.specs.Limits.{mostDuration}
 use Rattle.job.specs.Job.{Job}
 use Rattle.job.specs.Accepted.{Accepted}
 use Rattle.etf.specs.Instance.{Instance, WellFormed, tasks}
@@ -14,13 +13,14 @@ use Rattle.etf.specs.Schedule.{Placement, finish, arrival, end, byTask}
 use Rattle.etf.specs.Rule.{begin, run, planned}
 use Rattle.etf.specs.Dearest.{dearest}
 use Rattle.etf.specs.Checker.{Keeps, check}
-use Rattle.etf.specs.Topology.{cost, square}
+use Rattle.etf.specs.Topology.{cost}
 use Rattle.etf.specs.OfJob.{instance}
-use Rattle.etf.specs.Laws.Costs.{cost-most, square-cost}
-use Rattle.etf.specs.Laws.Times.{finish-after, finish-most, end-most, arrival-most}
+use Rattle.etf.specs.Bounds.{mostCost, mostMessageTime, mostFinish}
+use Rattle.etf.specs.Laws.Costs.{cost-most}
+use Rattle.etf.specs.Laws.Times.{finish-after, finish-most, last-most, arrival-most}
 use Rattle.etf.specs.Laws.Checker.{keeps-yes, planned-keeps}
 use Rattle.etf.specs.Laws.Dearest.{dearest-free}
-use Rattle.etf.specs.Laws.OfJob.{of-job, few, short-tasks, near-processors, one-processor}
+use Rattle.etf.specs.Laws.OfJob.{of-job, few, short-tasks, near-processors, laid-out, one-processor}
 
 -- 01: the dearest chain is 0 "with one board", of any job
 pub none-with-one-processor : (j : Job) → j .platform .processors ≡ 1 → dearest (instance j) ≡ 0
@@ -36,30 +36,32 @@ module _ (j : Job) (a : Accepted j) where
   well-formed = of-job j a
 
   -- 01: "No cost passes 800"
-  pub no-cost-passes : (p q : ℕ) → cost (j .platform) p q ≤ 800
+  pub no-cost-passes : (p q : ℕ) → cost (j .platform) p q ≤ mostCost
   no-cost-passes p q = cost-most (j .platform) p q (a .few-processors) (a .small-unit)
 
-  -- the square of the costs has them: what stands at p, q is the cost from p to q
-  pub square-right : (p q : ℕ) → p < j .platform .processors → q < j .platform .processors
-      → getD (getD (square (j .platform .processors) (cost (j .platform))) p []) q 0 ≡ cost (j .platform) p q
-  square-right p q = square-cost (j .platform .processors) (cost (j .platform)) p q (a .few-processors)
+  -- what a message takes is the cost: the square has it at p, q
+  pub cost-right : (p q : ℕ) → p < I .processors → q < I .processors → I .cost p q ≡ cost (j .platform) p q
+  cost-right p q h k = laid-out j p q (a .few-processors) h k
 
   -- 01: "no planned time passes 460,000,000": no start and no finish
-  pub no-finish-passes : (u : Placement) → u ∈ planned I → finish I u ≤ 460000000
-  no-finish-passes u h = omega (arith, finish-most I well-formed 1000000 800000 (short-tasks j a) (near-processors j a) u h, few j a)
+  pub no-finish-passes : (u : Placement) → u ∈ planned I → finish I u ≤ mostFinish
+  no-finish-passes u h =
+      omega (arith, finish-most I well-formed mostDuration mostMessageTime (short-tasks j a) (near-processors j a) u h, few j a)
 
   -- after any number of rounds, too
-  pub no-finish-passes-after : (k : ℕ) (u : Placement) → u ∈ run I k begin .placements → finish I u ≤ 460000000
-  no-finish-passes-after k u h = omega (arith, finish-after I well-formed 1000000 800000 (short-tasks j a) (near-processors j a) k u h, few j a)
+  pub no-finish-passes-after : (k : ℕ) (u : Placement) → u ∈ run I k begin .placements → finish I u ≤ mostFinish
+  no-finish-passes-after k u h =
+      omega (arith, finish-after I well-formed mostDuration mostMessageTime (short-tasks j a) (near-processors j a) k u h, few j a)
 
   -- nor the end
-  pub no-end-passes : end I (planned I) ≤ 460000000
-  no-end-passes = omega (arith, end-most I well-formed 1000000 800000 (short-tasks j a) (near-processors j a), few j a)
+  pub no-end-passes : end I (planned I) ≤ mostFinish
+  unfolding end
+  no-end-passes = omega (arith, last-most I well-formed mostDuration mostMessageTime (short-tasks j a) (near-processors j a), few j a)
 
   -- nor the arrival of a task at any processor
-  pub no-arrival-passes : (T P : ℕ) → T < tasks I → P < I .processors → arrival I (planned I) T P ≤ 460000000
+  pub no-arrival-passes : (T P : ℕ) → T < tasks I → P < I .processors → arrival I (planned I) T P ≤ mostFinish
   no-arrival-passes T P h p =
-      omega (arith, arrival-most I well-formed 1000000 800000 (short-tasks j a) (near-processors j a) T P h p, few j a)
+      omega (arith, arrival-most I well-formed mostDuration mostMessageTime (short-tasks j a) (near-processors j a) T P h p, few j a)
 
   -- the planner's schedule keeps the rules
   pub planned-keeps-rules : Keeps I (byTask I (planned I))

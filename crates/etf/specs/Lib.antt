@@ -8,6 +8,7 @@ pub mod Dearest
 pub mod Checker
 pub mod Ideal
 pub mod OfJob
+pub mod Bounds
 -- what holds of them
 pub mod Cases
 pub mod Placing

@@ -1,16 +1,22 @@
 -- The instance of a job: what the planner plans.
+use mathlib.Core.List.{List}
+use Prim.Native.Nat.{ℕ}
 use lib.ListN.{length}
 use Rattle.base.specs.Lists.{upto}
 use Rattle.job.specs.Job.{Job}
 use Rattle.etf.specs.Instance.{Instance}
-use Rattle.etf.specs.Topology.{cost}
+use Rattle.etf.specs.Topology.{cost, entry, square}
 
--- a job's processors, tasks and edges, the link costs of its platform, and the tasks by number (01: "ties go to the lowest step number")
+-- the link costs of a job (01: "Before planning, the costs are laid out as a square")
+unfoldable pub costsOf : Job → List (List ℕ)
+costsOf j = square (j .platform .processors) (cost (j .platform))
+
+-- a job's processors, tasks and edges, its link costs as laid out, and the tasks by number (01: "ties go to the lowest step number")
 unfoldable pub instance : Job → Instance
 instance j = record {
   processors = j .platform .processors;
   durations = j .tasks;
   edges = j .edges;
-  cost = cost (j .platform);
+  cost = entry (costsOf j);
   order = upto (length (j .tasks));
 }

@@ -21,7 +21,8 @@ use Rattle.etf.specs.Laws.Count
 -- what a round does (02 §14: "A round is a placing, or a move of the clock while steps remain unplaced"): the move is to NM, which is ahead
 pub data Round (I : Instance) (st : State) : State → Type 0 where
   places : (u : Placement) → Round I st (record { clock = st .clock; placements = u ∷ st .placements })
-  moves : (x : ℕ) → nextMoment I (st .clock) (st .placements) ≡ some x → st .clock < x → Round I st (record { clock = x; placements = st .placements })
+  moves : (x : ℕ) → nextMoment I (st .clock) (st .placements) ≡ some x → st .clock < x
+      → Round I st (record { clock = x; placements = st .placements })
 
 module _ (I : Instance) (W : WellFormed I) where
   -- every task is placed exactly once

@@ -29,7 +29,8 @@ unfoldable pub move : State → Option ℕ → State
 move st none = st
 move st (some x) = record { clock = x; placements = st .placements }
 
--- 01: "If that start is at most NM, place the step .. If it is above NM, place nothing"; where nothing is placed, for want of a pair too, the clock moves
+-- 01: "If that start is at most NM, place the step .. If it is above NM, place nothing";
+-- where nothing is placed, for want of a pair too, the clock moves
 unfoldable pub settle : State → Option ℕ → Option Placement → State
 settle st nm none = move st nm
 settle st nm (some u) = pick (atMost (u .start) nm) (record { clock = st .clock; placements = u ∷ st .placements }) (move st nm)
@@ -59,7 +60,8 @@ module _ (I : Instance) where
   unfoldable pub pairs : ℕ → List Placement → List Placement
   pairs cm ps = flatMap (λ T. map (pair cm ps T) (filter (free cm ps) (upto (I .processors)))) (filter (ready cm ps) (I .order))
 
-  -- 01: "Take the smallest start; ties go to the lowest step number, then the lowest board": the first pair of smallest start, as a job's `order` is by number
+  -- 01: "Take the smallest start; ties go to the lowest step number, then the lowest board":
+  -- the first pair of smallest start, as a job's `order` is by number
   unfoldable pub choice : ℕ → List Placement → Option Placement
   choice cm ps = best (λ u v. ltb (u .start) (v .start)) (pairs cm ps)
 
@@ -77,7 +79,8 @@ module _ (I : Instance) where
   run zero st = st
   run (suc k) st = run k (round st)
 
-  -- the planner's schedule (01: plan), newest placement first: 2m rounds place every task, and further rounds change nothing (`Placing.antt`)
+  -- the planner's schedule (01: plan), newest placement first:
+  -- 2m rounds place every task, and further rounds change nothing (`Placing.antt`)
   unfoldable pub planned : List Placement
   planned = run (2 * tasks I) begin .placements
 

@@ -18,7 +18,8 @@ pub record Placement : Type 0 where
 unfoldable pub placed : List Placement → ℕ → Bool
 placed ps T = any (λ u. eqb (u .task) T) ps
 
--- the placement of task T. Of a task that is not placed it is processor 0 at 0: the planning rule asks `placed` first, and walks are of whole schedules
+-- the placement of task T.
+-- Of a task that is not placed it is processor 0 at 0: the planning rule asks `placed` first, and walks are of whole schedules
 unfoldable pub placementOf : List Placement → ℕ → Placement
 placementOf [] T = record { task = T; processor = 0; start = 0 }
 placementOf (u ∷ ps) T = pick (eqb (u .task) T) u (placementOf ps T)
@@ -40,9 +41,13 @@ module _ (I : Instance) where
   unfoldable pub arrival : List Placement → ℕ → ℕ → ℕ
   arrival ps T P = greatest (reach ps P) (into I T)
 
+  -- the greatest finish; the walk and the bounds on times are stated with it
+  unfoldable pub lastFinish : List Placement → ℕ
+  lastFinish ps = greatest finish ps
+
   -- the end of a schedule (01: "The plan's end is the greatest finish")
   unfoldable pub end : List Placement → ℕ
-  end ps = greatest finish ps
+  end ps = lastFinish ps
 
   -- the schedule that gives each task a processor and a start, by task number (01: "A plan gives each step a board .. and a start")
   unfoldable pub scheduleOf : (ℕ → ℕ) → (ℕ → ℕ) → List Placement

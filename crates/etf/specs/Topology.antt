@@ -1,9 +1,9 @@
 -- Link costs (01: "Link costs"). A platform has `processors` (01: boards n), `topology` (wiring) and `unit` (unit cost c).
 use mathlib.Core.Bool.{not, _&&_}
-use mathlib.Core.List.{List, map}
+use mathlib.Core.List.{List, [], map}
 use Prim.Native.Nat.{ℕ, _-_, _*_, _/_, _%_, _^_, min}
 use lib.Dec.{ltb, eqb}
-use lib.ListN.{length}
+use lib.ListN.{length, getD}
 use Rattle.base.specs.Choice.{pick}
 use Rattle.base.specs.Lists.{upto, filter}
 use Rattle.job.specs.declared.Platform.{Platform}
@@ -35,6 +35,10 @@ hops r p q =
 -- 01: "The cost from a board to itself is 0. Between boards p and q it is c times the hops."
 unfoldable pub cost : Platform → ℕ → ℕ → ℕ
 cost r p q = pick (eqb p q) 0 (r .unit * hops r p q)
+
+-- what stands in a square of costs at row p and column q
+abbrev pub entry : List (List ℕ) → ℕ → ℕ → ℕ
+entry costs p q = getD (getD costs p []) q 0
 
 -- 01: "the costs are laid out as a square of sixteen rows of sixteen, 0 where a board is absent"; n processors, any cost
 unfoldable pub square : ℕ → (ℕ → ℕ → ℕ) → List (List ℕ)

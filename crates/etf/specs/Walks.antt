@@ -1,4 +1,4 @@
--- The cover's walk: C is what the walk's rule says, whatever the number of moves allowed, and the sum of one of the walks of request §7.
+-- The cover's walk: C is what the walk's rule says, whatever the number of moves allowed, and the sum of one of the walks of 02 §7.
 use mathlib.Core.Path.{_≡_}
 use mathlib.Core.Option.{none, some}
 use Prim.Native.Nat.{ℕ, suc, _+_, _≤_, _<_}
@@ -11,10 +11,12 @@ use Rattle.etf.specs.Laws.Back.{stopped, walk-is, walk-enough}
 use Rattle.etf.specs.Laws.Planned.{last-task}
 
 module _ (I : Instance) (W : WellFormed I) where
-  -- what the walk from task T adds, by the rule alone: nothing where it stops, else the message time of the move and what the walk from the predecessor adds
+  -- what the walk from task T adds, by the rule alone: nothing where it stops,
+  -- else the message time of the move and what the walk from the predecessor adds
   pub walk-rule : (T : ℕ) → T < tasks I
       → walk I (planned I) (tasks I) T
-      ≡ elim (back I (planned I) T) [ none ↦ 0 | some b ↦ messageTimeTo I (planned I) (b .through) (b .edge) + walk I (planned I) (tasks I) (b .edge .from) ]
+      ≡ elim (back I (planned I) T)
+      [ none ↦ 0 | some b ↦ messageTimeTo I (planned I) (b .through) (b .edge) + walk I (planned I) (tasks I) (b .edge .from) ]
   unfolding walk
   walk-rule T b = walk-enough I W (tasks I) (suc (tasks I)) T b (omega arith) b
 
@@ -23,10 +25,12 @@ module _ (I : Instance) (W : WellFormed I) where
   enough-moves k T h b = walk-enough I W k (tasks I) T h b b
 
   -- the walk stops only where no tick before the task's start is short
-  pub stops-right : (T : ℕ) → T < tasks I → back I (planned I) T ≡ none → latestIdleTick I (planned I) (placementOf (planned I) T .start) ≡ none
+  pub stops-right : (T : ℕ) → T < tasks I → back I (planned I) T ≡ none
+      → latestIdleTick I (planned I) (placementOf (planned I) T .start) ≡ none
   stops-right T b e = stopped I W T b e
 
--- the walk whose sum is C: begun with the last task, it adds up to C with every number of moves that reaches its end, and is a walk of request §7
+-- the walk whose sum is C: begun with the last task, it adds up to C with every number of moves that reaches its end,
+-- and is a walk of 02 §7
 pub record CoverWalk (I : Instance) : Type 0 where
   pub task : ℕ
   pub is-last : lastTask I (planned I) ≡ some task

@@ -9,7 +9,7 @@ use Rattle.etf.specs.Dearest.{dearest}
 use Rattle.etf.specs.Ideal.{Ideal, makespan}
 use Rattle.etf.specs.Walks.{cover-walk}
 use Rattle.etf.specs.Laws.Walk.{walk-dearest}
-use Rattle.etf.specs.Laws.Bound.{end-bound, own-ideal, own-makespan}
+use Rattle.etf.specs.Laws.Bound.{last-bound, own-ideal, own-makespan}
 
 -- 00, demand 3, on n processors: "n times E is at most (2n - 1) times F plus n times C", and "C is at most the dearest chain", D
 pub record Within (n E F C D : ℕ) : Type 0 where
@@ -24,8 +24,9 @@ module _ (I : Instance) (W : WellFormed I) where
   -- 02 §7: the comparison holds with every walk begun with any task that finishes last, for every ideal schedule
   pub any-walk-within : (T C : ℕ) → FinishesLast I (planned I) T → Walk I (planned I) T C
       → (R : Ideal I) → Within (I .processors) (end I (planned I)) (makespan I R) C (dearest I)
+  unfolding end
   any-walk-within T C f w R =
-      record { end-within = end-bound I W R T C (f .below) (f .at-end) w; cover-within = walk-within T C (f .below) w }
+      record { end-within = last-bound I W R T C (f .below) (f .at-last) w; cover-within = walk-within T C (f .below) w }
 
   -- demand 3: E is the end of the planner's schedule, F the makespan of any ideal schedule, C the cover, D the dearest chain
   pub within : (R : Ideal I) → Within (I .processors) (end I (planned I)) (makespan I R) (cover I) (dearest I)
@@ -33,4 +34,5 @@ module _ (I : Instance) (W : WellFormed I) where
 
   -- there is an ideal schedule: the planner's own is one, with its end as makespan
   pub some-ideal : (R : Ideal I) × (makespan I R ≡ end I (planned I))
+  unfolding end
   some-ideal = (own-ideal I W, own-makespan I W)

@@ -1,5 +1,5 @@
--- The walk of document 01 is a walk: where it goes back, it may, and it stops only where no tick before the start is short. For a processor
--- idle before a task's start, some predecessor's messages reach it later.
+-- The walk of document 01 is a walk: where it goes back, it may, and it stops only where no tick before the start is short.
+-- For a processor idle before a task's start, some predecessor's messages reach it later.
 use mathlib.Core.Path.{_≡_, refl, ap}
 use mathlib.Core.Logic.{_⊎_, inl, inr}
 use mathlib.Core.Bool.{not}
@@ -16,7 +16,8 @@ use Rattle.job.specs.Job.{Edge}
 use Rattle.etf.specs.Instance.{Instance, WellFormed, tasks, into}
 use Rattle.etf.specs.Schedule.{Placement, placementOf, messageTimeTo, reach, arrival}
 use Rattle.etf.specs.Rule.{planned}
-use Rattle.etf.specs.Cover.{Back, busy, idle, someIdle, latestIdleTick, MayGoBack, Walk, stops, goes, lowestIdle, later, latestInto, back, walk}
+use Rattle.etf.specs.Cover.{Back, busy, idle, someIdle, latestIdleTick, MayGoBack, Walk, stops, goes}
+use Rattle.etf.specs.Cover.{lowestIdle, later, latestInto, back, walk}
 use Rattle.etf.specs.Laws.Placements.{arrival-at}
 use Rattle.etf.specs.Laws.Idle.{idle-of, idle-in, LatestIdleTick, no-tick, at, latest-idle-tick}
 use Rattle.etf.specs.Laws.Walk.{source}
@@ -34,7 +35,8 @@ module _ (I : Instance) (W : WellFormed I) where
       go : (arrival I ps T P ≤ t) ⊎ (t < arrival I ps T P) → t < arrival I ps T P
       go (inl k) =
           let s = home I W T b in
-          absurd (not-both (busy I ps P t) i (sound-plan I W .full (placementOf ps T) (s .0) P t p (omega (arith, ap (λ x. arrival I ps x P) (s .1))) ts))
+          absurd (not-both (busy I ps P t) i
+          (sound-plan I W .full (placementOf ps T) (s .0) P t p (omega (arith, ap (λ x. arrival I ps x P) (s .1))) ts))
       go (inr k) = k
 
   later-order : (P : ℕ) → Order (later I ps P)
@@ -48,7 +50,9 @@ module _ (I : Instance) (W : WellFormed I) where
     where
       go : (reach I ps P d ≤ reach I ps P e) ⊎ (reach I ps P e < reach I ps P d) → reach I ps P d ≤ reach I ps P e
       go (inl k) = k
-      go (inr k) = absurd (not-both (later I ps P d e) h (or-left (ltb (reach I ps P e) (reach I ps P d)) _ (lt→ltb (reach I ps P e) (reach I ps P d) k)))
+      go (inr k) =
+          absurd (not-both (later I ps P d e) h
+          (or-left (ltb (reach I ps P e) (reach I ps P d)) _ (lt→ltb (reach I ps P e) (reach I ps P d) k)))
 
   -- how the walk goes on from task T
   pub data BackIs (T : ℕ) : Option Back → Type 0 where
@@ -70,7 +74,13 @@ module _ (I : Instance) (W : WellFormed I) where
           last o (nothing z) = absurd (z (late .0) (late .1))
           last o (found d h low) =
               along (record { edge = d; through = P })
-              (record { tick = t; is-latest = e; is-idle = i; is-into = h; reaches-after = omega (arith, late .2, reach-most P (late .0) d (low (late .0) (late .1))) })
+              (record {
+                tick = t;
+                is-latest = e;
+                is-idle = i;
+                is-into = h;
+                reaches-after = omega (arith, late .2, reach-most P (late .0) d (low (late .0) (late .1)));
+              })
 
       idler : (t : ℕ) → latestIdleTick I ps (placementOf ps T .start) ≡ some t → t < placementOf ps T .start → Holds (someIdle I ps t)
           → (o : Option ℕ) → Best ltb (idle I ps t) o
@@ -80,7 +90,8 @@ module _ (I : Instance) (W : WellFormed I) where
           edge-of t P e ts i (best (later I ps P) (into I T)) (best-is (later I ps P) (later-order P) (into I T))
 
       tick : (o : Option ℕ) → latestIdleTick I ps (placementOf ps T .start) ≡ o → LatestIdleTick I ps (placementOf ps T .start) o
-          → BackIs T (bind o (λ t. bind (best ltb (idle I ps t)) (λ P. bind (best (later I ps P) (into I T)) (λ e. some (record { edge = e; through = P })))))
+          → BackIs T (bind o (λ t. bind (best ltb (idle I ps t))
+          (λ P. bind (best (later I ps P) (into I T)) (λ e. some (record { edge = e; through = P })))))
       tick o e (no-tick z) = nowhere e
       tick o e (at t ts sh z) = idler t e ts sh (best ltb (idle I ps t)) (best-is ltb (by-least (λ x. x)) (idle I ps t))
 

@@ -1,5 +1,5 @@
--- The checker's answer against the rules: one view says of the whole answer that either all rules hold or its number has a reason,
--- and the planner's plan keeps the rules by what holds after each of its rounds.
+-- The checker's answer against the rules: one view says of the whole answer that either all rules hold or its number has a reason.
+-- The planner's plan keeps the rules, by what holds after each of its rounds.
 use mathlib.Core.Path.{_≡_, refl, sym, ap, _∙_, subst}
 use mathlib.Core.Logic.{_⊎_, inl, inr}
 use mathlib.Core.Bool.{Bool, true, false, not, _&&_, _||_}
@@ -17,7 +17,8 @@ use Rattle.job.specs.Job.{Edge}
 use Rattle.etf.specs.Instance.{Instance, WellFormed, messageTime}
 use Rattle.etf.specs.Schedule.{Placement, placementOf, finish, messageTimeTo, byTask}
 use Rattle.etf.specs.Rule.{planned}
-use Rattle.etf.specs.Checker.{latestStart, firstAnswer, Apart, InTime, Keeps, misplaced, overlap, early, check, Because, no-processor, too-late, overlaps, too-early}
+use Rattle.etf.specs.Checker.{latestStart, firstAnswer, Apart, InTime, Keeps, misplaced, overlap, early, check}
+use Rattle.etf.specs.Checker.{Because, no-processor, too-late, overlaps, too-early}
 use Rattle.etf.specs.Laws.Placements.{into-in, arrival-ge}
 use Rattle.etf.specs.Laws.Sound.{Sound}
 use Rattle.etf.specs.Laws.Ticks.{placement-once}
@@ -83,7 +84,8 @@ module _ (I : Instance) where
   pub overlap-of : (u v : Placement) → Holds (overlap I u v) → Overlap u v
   unfolding overlap
   overlap-of u v h =
-      let z = parts-of (eqb (u .task) (v .task)) (eqb (u .processor) (v .processor)) (leb (finish I u) (v .start)) (leb (finish I v) (u .start)) h in (
+      let z = parts-of (eqb (u .task) (v .task)) (eqb (u .processor) (v .processor))
+      (leb (finish I u) (v .start)) (leb (finish I v) (u .start)) h in (
         neqb→ne (u .task) (v .task) (z .0),
         eqb→eq (u .processor) (v .processor) (z .1),
         nleb→lt (finish I u) (v .start) (z .2),
@@ -261,6 +263,7 @@ module _ (I : Instance) where
   }
 
 -- the planner's plan keeps the rules, if no start is too late
-pub planned-keeps : (I : Instance) → WellFormed I → ((u : Placement) → u ∈ planned I → u .start ≤ latestStart) → Keeps I (byTask I (planned I))
+pub planned-keeps : (I : Instance) → WellFormed I → ((u : Placement) → u ∈ planned I → u .start ≤ latestStart)
+    → Keeps I (byTask I (planned I))
 planned-keeps I W b =
     keeps-some I (planned I) (byTask I (planned I)) (byTask-of I W) (sound-keeps I (last-clock I W) (planned I) (sound-plan I W) b)

@@ -1,5 +1,5 @@
--- How dear a message can be, and what stands in the square of costs: no way has more than eight hops, as a cube's has at most
--- four and a ring's at most half of sixteen; and a row, as the square, is a map over the numbers from 0 on, read at its place.
+-- How dear a message can be, as no way has more than eight hops, and what stands in the square of costs.
+-- A cube's way has at most four hops, a ring's at most half of sixteen; a row, as the square, is a map over 0, 1, .., read at its place.
 use mathlib.Core.Path.{_≡_, _∙_}
 use mathlib.Core.Logic.{_⊎_, inl, inr}
 use mathlib.Core.Bool.{Bool, true, false, not, _&&_}
@@ -14,6 +14,8 @@ use Rattle.base.specs.Lists.{upto}
 use Rattle.base.specs.Laws.Tests.{both, pick-yes, le-or-lt}
 use Rattle.base.specs.Laws.Lists.{length-filter-most, map-upto-at, map-upto-length}
 use Rattle.job.specs.declared.Platform.{Platform}
+use Rattle.job.specs.Limits.{mostUnit}
+use Rattle.etf.specs.Bounds.{mostHops, mostCost}
 use Rattle.etf.specs.Topology.{binaryPlace, hypercubeHops, ringHops, hops, cost, square}
 
 -- ---- hops and costs
@@ -32,7 +34,7 @@ unfolding ringHops
 ring-most n p q h = omega arith
 
 -- no way has more than eight hops
-pub hops-most : (r : Platform) (p q : ℕ) → r .processors ≤ 16 → hops r p q ≤ 8
+pub hops-most : (r : Platform) (p q : ℕ) → r .processors ≤ 16 → hops r p q ≤ mostHops
 unfolding hops
 hops-most r p q n =
     pick-most (eqb (r .topology) 0) 1 _ 8 (omega arith)
@@ -40,9 +42,9 @@ hops-most r p q n =
     (pick-most (eqb (r .topology) 2) (ringHops (r .processors) p q) 0 8 (ring-most (r .processors) p q n) (omega arith)))
 
 -- no cost passes 800
-pub cost-most : (r : Platform) (p q : ℕ) → r .processors ≤ 16 → r .unit ≤ 100 → cost r p q ≤ 800
+pub cost-most : (r : Platform) (p q : ℕ) → r .processors ≤ 16 → r .unit ≤ mostUnit → cost r p q ≤ mostCost
 unfolding cost
-cost-most r p q n c = pick-most (eqb p q) 0 (r .unit * hops r p q) 800 (omega arith) (mul-le-mul c (hops-most r p q n))
+cost-most r p q n c = pick-most (eqb p q) 0 (r .unit * hops r p q) mostCost (omega arith) (mul-le-mul c (hops-most r p q n))
 
 -- a processor reaches itself at cost 0
 pub cost-self : (r : Platform) (p : ℕ) → cost r p p ≡ 0

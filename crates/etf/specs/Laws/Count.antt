@@ -1,4 +1,4 @@
--- The rounds counted are those before every task is placed; in a chain placings and moves of the clock take turns, so that m tasks take 2m - 1.
+-- The rounds counted are those before every task is placed; in a chain placings and moves of the clock take turns: m tasks take 2m - 1.
 use mathlib.Core.Path.{_≡_, refl, _∙_}
 use mathlib.Core.Logic.{_⊎_, inl, inr}
 use mathlib.Core.Bool.{not}
@@ -45,7 +45,8 @@ module _ (I : Instance) where
       go (inr c) zero q r = c
       go (inr c) (suc j) q r = r j (omega (arith, count-one k st c))
 
-  count-complete : (k : ℕ) (st : State) → Holds (complete I (run I k st .placements)) → Holds (complete I (run I (roundsIn I k st) st .placements))
+  count-complete : (k : ℕ) (st : State) → Holds (complete I (run I k st .placements))
+      → Holds (complete I (run I (roundsIn I k st) st .placements))
   unfolding run
   count-complete zero st h = rw (count-none st) h
   count-complete (suc k) st h = go (either (complete I (st .placements))) (count-complete k (round I st) h)
@@ -81,13 +82,13 @@ module _ (I : Instance) where
 
     -- ---- a chain
 
-    -- tasks 0 .. k - 1 are placed, and have finished
+    -- tasks 0 .. k - 1 are placed, no other is, and all have finished
     record Still (k : ℕ) (st : State) : Type 0 where
       early : (T : ℕ) → T < k → Holds (placed (st .placements) T)
       late : (T : ℕ) → Holds (placed (st .placements) T) → T < k
       ended : (v : Placement) → v ∈ st .placements → finish I v ≤ st .clock
 
-    -- tasks 0 .. k are placed, and all but the last have finished
+    -- tasks 0 .. k are placed, no other is, and all but the last have finished
     record Running (k : ℕ) (st : State) : Type 0 where
       early : (T : ℕ) → T < suc k → Holds (placed (st .placements) T)
       late : (T : ℕ) → Holds (placed (st .placements) T) → T < suc k
@@ -164,12 +165,15 @@ module _ (I : Instance) where
           waits T e Q = absurd (omega (arith, R .ahead, before (st .clock) (st .placements) k (rw e at Q) .1))
 
           by : (x : ℕ) → Tick I (st .clock) (st .placements) x → finish I (placementOf (st .placements) k) ≡ x
-          by x K = let w = K .whose in elim (R .ended (w .0) (w .1)) [ inl q ↦ absurd (omega (arith, K .ahead, w .2)) | inr q ↦ omega (arith, w .2) ]
+          by x K =
+              let w = K .whose in
+              elim (R .ended (w .0) (w .1)) [ inl q ↦ absurd (omega (arith, K .ahead, w .2)) | inr q ↦ omega (arith, w .2) ]
 
           go : (nx : State) → Turn I (st .clock) (st .placements) nx → Still (suc k) nx
           go nx (rest c) = absurd (running-open k st h R c)
           go nx (put u K) =
-              absurd (waits (u .task) (next-task (suc k) (st .clock) (st .placements) (R .early) (R .late) (u .task) (K .task-ready)) (K .task-ready))
+              absurd (waits (u .task)
+              (next-task (suc k) (st .clock) (st .placements) (R .early) (R .late) (u .task) (K .task-ready)) (K .task-ready))
           go nx (tick x K) = record {
             early = R .early;
             late = R .late;

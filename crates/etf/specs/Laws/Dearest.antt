@@ -25,6 +25,7 @@ module _ (I : Instance) where
         greatest-ge (λ x. x .count * greatestCost I + dearestTo I k (x .from)) (into I T) d (into-in I T d (c .0) e),
       )
 
+  -- no chain is dearer
   pub chain-below : WellFormed I → (es : List Edge) → Chain I es → price I es ≤ dearest I
   unfolding dearest price
   chain-below W [] c = omega arith
@@ -44,7 +45,8 @@ module _ (I : Instance) where
       f : Edge → ℕ
       f e = e .count * greatestCost I + dearestTo I k (e .from)
 
-      go : (1 ≤ greatest f (into I T)) ⊎ (greatest f (into I T) < 1) → ((S : ℕ) → (es : List Edge) × Chain I es × EndsAt S es × (price I es ≡ dearestTo I k S))
+      go : (1 ≤ greatest f (into I T)) ⊎ (greatest f (into I T) < 1)
+          → ((S : ℕ) → (es : List Edge) × Chain I es × EndsAt S es × (price I es ≡ dearestTo I k S))
           → (es : List Edge) × Chain I es × EndsAt T es × (price I es ≡ greatest f (into I T))
       go (inl h) r =
           let z = greatest-at f (into I T) (greatest f (into I T) - 1) (omega arith) in
@@ -54,6 +56,7 @@ module _ (I : Instance) where
           (e ∷ s .0, (i .0, s .2, s .1), i .1, omega (arith, z .2, greatest-ge f (into I T) e (z .1), s .3))
       go (inr h) r = ([], tt, tt, omega arith)
 
+  -- and one is as dear
   pub chain-at : (es : List Edge) × Chain I es × (price I es ≡ dearest I)
   unfolding dearest price
   chain-at = go (le-or-lt 1 (greatest (dearestTo I (tasks I)) (upto (tasks I))))

@@ -81,14 +81,19 @@ module _ (I : Instance) (ps : List Placement) where
       )
 
   -- while a placed task runs, not all are
-  pub idlers-less : (u : Placement) → u ∈ ps → u .processor < I .processors → (t : ℕ) → u .start ≤ t → t < finish I u → idlers I ps t < I .processors
+  pub idlers-less : (u : Placement) → u ∈ ps → u .processor < I .processors → (t : ℕ) → u .start ≤ t → t < finish I u
+      → idlers I ps t < I .processors
   idlers-less u h p t a b =
       omega (
         arith,
         idlers-sum I ps t,
         sum-each (I .processors) 1,
-        sum-less (I .processors) (u .processor) (λ P. one-if (not (busy I ps P t))) (λ P. 1) (λ P k. one-if-most (not (busy I ps P t)))
-            p (omega (arith, one-if-no (not (busy I ps (u .processor) t)) (not-not (busy I ps (u .processor) t) (busy-in I ps (u .processor) t u h refl a b)))),
+        sum-less (I .processors) (u .processor) (λ P. one-if (not (busy I ps P t))) (λ P. 1) (λ P k. one-if-most (not (busy I ps P t))) p
+            (omega (
+              arith,
+              one-if-no (not (busy I ps (u .processor) t))
+                  (not-not (busy I ps (u .processor) t) (busy-in I ps (u .processor) t u h refl a b)),
+            )),
       )
 
   -- in a tick that is not short none is
@@ -98,7 +103,8 @@ module _ (I : Instance) (ps : List Placement) where
         arith,
         idlers-sum I ps t,
         sum-each (I .processors) 0,
-        sum-same (I .processors) (λ P. one-if (not (busy I ps P t))) (λ P. 0) (λ P p. one-if-no (not (busy I ps P t)) (not-not (busy I ps P t) (none-idle-in t h P p))),
+        sum-same (I .processors) (λ P. one-if (not (busy I ps P t))) (λ P. 0)
+            (λ P p. one-if-no (not (busy I ps P t)) (not-not (busy I ps P t) (none-idle-in t h P p))),
       )
 
   -- so idle ticks before s are idle ticks before the end of the latest short tick

@@ -6,14 +6,15 @@ use native.Mathlib.Nat.{mul-le-mul}
 use lib.ListN.{length}
 use Rattle.base.specs.Lists.{_∈_, upto, greatest}
 use Rattle.base.specs.Laws.Lists.{upto-in, upto-of, place}
-use Rattle.job.specs.declared.Platform.{Platform}
+use Rattle.job.specs.Limits.{mostDuration, mostCount}
 use Rattle.job.specs.Job.{Edge, Job}
 use Rattle.job.specs.Accepted.{Accepted, edgeAt}
 use Rattle.etf.specs.Instance.{WellFormed, tasks, duration, messageTime}
-use Rattle.etf.specs.Topology.{cost}
+use Rattle.etf.specs.Topology.{cost, entry}
 use Rattle.etf.specs.Dearest.{greatestCost}
-use Rattle.etf.specs.OfJob.{instance}
-use Rattle.etf.specs.Laws.Costs.{cost-most, cost-self}
+use Rattle.etf.specs.OfJob.{costsOf, instance}
+use Rattle.etf.specs.Bounds.{mostCost, mostMessageTime}
+use Rattle.etf.specs.Laws.Costs.{cost-most, cost-self, square-most, square-cost}
 
 -- what holds of each edge of a job by its place holds of each edge
 each-edge : (j : Job) (P : Edge → Type 0) → ((i : ℕ) → i < length (j .edges) → P (edgeAt j i)) → (e : Edge) → e ∈ j .edges → P e
@@ -34,20 +35,37 @@ pub few : (j : Job) → Accepted j → tasks (instance j) ≤ 256
 unfolding instance
 few j a = a .few-tasks
 
-pub short-tasks : (j : Job) → Accepted j → (T : ℕ) → T < tasks (instance j) → duration (instance j) T ≤ 1000000
+pub short-tasks : (j : Job) → Accepted j → (T : ℕ) → T < tasks (instance j) → duration (instance j) T ≤ mostDuration
 unfolding instance duration
 short-tasks j a = a .short-enough
 
-pub near-processors : (j : Job) → Accepted j → (e : Edge) → e ∈ instance j .edges → (p q : ℕ) → p < instance j .processors → q < instance j .processors
-    → messageTime (instance j) e p q ≤ 800000
+-- what a message takes is the cost, as it is laid out
+pub laid-out : (j : Job) (p q : ℕ) → j .platform .processors ≤ 16 → p < instance j .processors → q < instance j .processors
+    → instance j .cost p q ≡ cost (j .platform) p q
+unfolding instance costsOf
+laid-out j p q few h k = square-cost (j .platform .processors) (cost (j .platform)) p q few h k
+
+-- no entry of the costs passes the bound
+pub entry-most : (j : Job) → Accepted j → (p q : ℕ) → entry (costsOf j) p q ≤ mostCost
+unfolding costsOf
+entry-most j a =
+    square-most (j .platform .processors) (cost (j .platform)) mostCost
+    (λ p q. cost-most (j .platform) p q (a .few-processors) (a .small-unit))
+
+-- no edge's messages take longer than the bound
+pub near-processors : (j : Job) → Accepted j → (e : Edge) → e ∈ instance j .edges
+    → (p q : ℕ) → p < instance j .processors → q < instance j .processors → messageTime (instance j) e p q ≤ mostMessageTime
 unfolding instance messageTime
-near-processors j a e h p q s t = mul-le-mul (each-edge j (λ d. d .count ≤ 1000) (a .few-messages) e h) (cost-most (j .platform) p q (a .few-processors) (a .small-unit))
+near-processors j a e h p q s t = mul-le-mul (each-edge j (λ d. d .count ≤ mostCount) (a .few-messages) e h) (entry-most j a p q)
 
 -- one processor reaches itself alone
-alone : (r : Platform) → greatest (λ p. greatest (λ q. cost r p q) (upto 1)) (upto 1) ≡ 0
+alone : (c : ℕ → ℕ → ℕ) → c 0 0 ≡ 0 → greatest (λ p. greatest (λ q. c p q) (upto 1)) (upto 1) ≡ 0
 unfolding greatest upto
-alone r = omega (arith, cost-self r 0)
+alone c e = omega (arith, e)
 
 pub one-processor : (j : Job) → j .platform .processors ≡ 1 → greatestCost (instance j) ≡ 0
 unfolding instance greatestCost
-one-processor j e = ap (λ (n : ℕ). greatest (λ p. greatest (λ q. cost (j .platform) p q) (upto n)) (upto n)) e ∙ alone (j .platform)
+one-processor j e =
+    let c : ℕ → ℕ → ℕ = instance j .cost in
+    let free : c 0 0 ≡ 0 = laid-out j 0 0 (omega (arith, e)) (omega (arith, e)) (omega (arith, e)) ∙ cost-self (j .platform) 0 in
+    ap (λ (n : ℕ). greatest (λ p. greatest (λ q. c p q) (upto n)) (upto n)) e ∙ alone c free

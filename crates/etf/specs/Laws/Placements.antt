@@ -51,7 +51,8 @@ unfolding placed any
 placement-of [] T h = absurd h
 placement-of (u ∷ ps) T h = go (either (eqb (u .task) T)) (λ k. placement-of ps T k)
   where
-    go : Holds (eqb (u .task) T) ⊎ Holds (not (eqb (u .task) T)) → (Holds (placed ps T) → (placementOf ps T ∈ ps) × (placementOf ps T .task ≡ T))
+    go : Holds (eqb (u .task) T) ⊎ Holds (not (eqb (u .task) T))
+        → (Holds (placed ps T) → (placementOf ps T ∈ ps) × (placementOf ps T .task ≡ T))
         → (placementOf (u ∷ ps) T ∈ (u ∷ ps)) × (placementOf (u ∷ ps) T .task ≡ T)
     go (inl k) r = let e = eqb→eq (u .task) T k in rw (placement-head u ps T e) (here refl, e)
     go (inr k) r =
@@ -85,13 +86,16 @@ module _ (I : Instance) where
 
   -- ---- busy processors
 
-  pub busy-in : (ps : List Placement) (P t : ℕ) (u : Placement) → u ∈ ps → u .processor ≡ P → u .start ≤ t → t < finish I u → Holds (busy I ps P t)
+  pub busy-in : (ps : List Placement) (P t : ℕ) (u : Placement) → u ∈ ps → u .processor ≡ P → u .start ≤ t → t < finish I u
+      → Holds (busy I ps P t)
   unfolding busy
   busy-in ps P t u h e a b =
       any-of (λ v. eqb (v .processor) P && running (v .start) (duration I (v .task)) t) ps u h
-      (both (eqb (u .processor) P) (running (u .start) (duration I (u .task)) t) (eq→eqb (u .processor) P e) (running-in (u .start) (duration I (u .task)) t a b))
+      (both (eqb (u .processor) P) (running (u .start) (duration I (u .task)) t) (eq→eqb (u .processor) P e)
+      (running-in (u .start) (duration I (u .task)) t a b))
 
-  pub busy-of : (ps : List Placement) (P t : ℕ) → Holds (busy I ps P t) → (u : Placement) × (u ∈ ps) × (u .processor ≡ P) × Holds (running (u .start) (duration I (u .task)) t)
+  pub busy-of : (ps : List Placement) (P t : ℕ) → Holds (busy I ps P t)
+      → (u : Placement) × (u ∈ ps) × (u .processor ≡ P) × Holds (running (u .start) (duration I (u .task)) t)
   unfolding busy
   busy-of ps P t h =
       let z = any-one (λ v. eqb (v .processor) P && running (v .start) (duration I (v .task)) t) ps h in

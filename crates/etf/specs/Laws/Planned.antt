@@ -14,7 +14,7 @@ use Rattle.base.specs.Laws.Tests.{either, not-both, fails, pick-yes, pick-no, n
 use Rattle.base.specs.Laws.Lists.{in-nothing, greatest-ge, greatest-at, upto-in, upto-of, map-of, Best, nothing, found, best-is}
 use Rattle.base.specs.Laws.Lists.{by-greatest}
 use Rattle.etf.specs.Instance.{Instance, WellFormed, tasks}
-use Rattle.etf.specs.Schedule.{Placement, placed, placementOf, finish, end, scheduleOf, byTask}
+use Rattle.etf.specs.Schedule.{Placement, placed, placementOf, finish, lastFinish, scheduleOf, byTask}
 use Rattle.etf.specs.Rule.{begin, run, planned}
 use Rattle.etf.specs.Cover.{FinishesLast, lastTask}
 use Rattle.etf.specs.Checker.{Apart}
@@ -53,8 +53,8 @@ times-once T (u ∷ ps) o h = go (either (eqb (u .task) T)) (λ k. times-once T 
 
 module _ (I : Instance) where
   -- two placements on one processor are apart: one of them is the newer
-  pub apart-pairs : (ps : List Placement) → NewerLater I ps → (u v : Placement) → u ∈ ps → v ∈ ps → ¬ (u .task ≡ v .task) → u .processor ≡ v .processor
-      → Apart I u v
+  pub apart-pairs : (ps : List Placement) → NewerLater I ps → (u v : Placement) → u ∈ ps → v ∈ ps
+      → ¬ (u .task ≡ v .task) → u .processor ≡ v .processor → Apart I u v
   apart-pairs (w ∷ ps) a u v (here d) (here e) ne p = absurd (ne (ap (λ (x : Placement). x .task) (d ∙ sym e)))
   apart-pairs (w ∷ ps) a u v (here d) (there k) ne p = inr (rw d (a .0 v k (sym p ∙ ap (λ (x : Placement). x .processor) d)))
   apart-pairs (w ∷ ps) a u v (there h) (here e) ne p = inl (rw e (a .0 u h (p ∙ ap (λ (x : Placement). x .processor) e)))
@@ -80,19 +80,20 @@ module _ (I : Instance) (W : WellFormed I) where
   on-processor T b = sound-plan .in-range (placementOf (planned I) T) (home T b .0) .1
 
   -- no task finishes after the end
-  pub by-end : (T : ℕ) → T < tasks I → finish I (placementOf (planned I) T) ≤ end I (planned I)
-  unfolding end
-  by-end T b = greatest-ge (finish I) (planned I) (placementOf (planned I) T) (home T b .0)
+  pub by-last : (T : ℕ) → T < tasks I → finish I (placementOf (planned I) T) ≤ lastFinish I (planned I)
+  unfolding lastFinish
+  by-last T b = greatest-ge (finish I) (planned I) (placementOf (planned I) T) (home T b .0)
 
   -- a task that none finishes after finishes at the end
   ends : (T : ℕ) → T < tasks I → ((S : ℕ) → S < tasks I → finish I (placementOf (planned I) S) ≤ finish I (placementOf (planned I) T))
-      → finish I (placementOf (planned I) T) ≡ end I (planned I)
-  unfolding end
-  ends T b most = go (le-or-lt (end I (planned I)) (finish I (placementOf (planned I) T)))
+      → finish I (placementOf (planned I) T) ≡ lastFinish I (planned I)
+  unfolding lastFinish
+  ends T b most = go (le-or-lt (lastFinish I (planned I)) (finish I (placementOf (planned I) T)))
     where
-      go : (end I (planned I) ≤ finish I (placementOf (planned I) T)) ⊎ (finish I (placementOf (planned I) T) < end I (planned I))
-          → finish I (placementOf (planned I) T) ≡ end I (planned I)
-      go (inl h) = omega (arith, by-end T b)
+      go : (lastFinish I (planned I) ≤ finish I (placementOf (planned I) T))
+          ⊎ (finish I (placementOf (planned I) T) < lastFinish I (planned I))
+          → finish I (placementOf (planned I) T) ≡ lastFinish I (planned I)
+      go (inl h) = omega (arith, by-last T b)
       go (inr h) =
           let z = greatest-at (finish I) (planned I) (finish I (placementOf (planned I) T)) h in
           let u = z .0 in
@@ -116,7 +117,7 @@ module _ (I : Instance) (W : WellFormed I) where
       go o (nothing z) = absurd (z 0 (upto-in (tasks I) 0 (W .some-task)))
       go o (found T h low) =
           let b = upto-of (tasks I) T h in
-          (T, refl, record { below = b; at-end = ends T b (λ S c. nltb→le (at T) (at S) (low S (upto-in (tasks I) S c))) })
+          (T, refl, record { below = b; at-last = ends T b (λ S c. nltb→le (at T) (at S) (low S (upto-in (tasks I) S c))) })
 
   -- each task is placed exactly once
   pub placed-once : (T : ℕ) → T < tasks I → length (filter (λ u. eqb (u .task) T) (planned I)) ≡ 1

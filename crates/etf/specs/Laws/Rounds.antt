@@ -33,7 +33,11 @@ module _ (I : Instance) where
   pub left-start : left [] ≤ tasks I
   unfolding left
   left-start =
-      omega (arith, sum-each (tasks I) 1, sum-le (tasks I) (λ T. one-if (not (placed [] T))) (λ T. 1) (λ T h. one-if-most (not (placed [] T))))
+      omega (
+        arith,
+        sum-each (tasks I) 1,
+        sum-le (tasks I) (λ T. one-if (not (placed [] T))) (λ T. 1) (λ T h. one-if-most (not (placed [] T))),
+      )
 
   -- ---- a placing brings down `left`, a move of the clock `live`
 
@@ -46,7 +50,11 @@ module _ (I : Instance) where
       sum-less (tasks I) (u .task) (λ T. one-if (not (placed (u ∷ ps) T))) (λ T. one-if (not (placed ps T)))
       (λ T h. one-not (placed (u ∷ ps) T) (placed ps T) (placed-more u ps T))
       (K .task-ready .below)
-      (omega (arith, one-if-no (not (placed (u ∷ ps) (u .task))) (not-not (placed (u ∷ ps) (u .task)) (placed-head u ps)), one-if-yes (not (placed ps (u .task))) (K .task-ready .fresh)))
+      (omega (
+        arith,
+        one-if-no (not (placed (u ∷ ps) (u .task))) (not-not (placed (u ∷ ps) (u .task)) (placed-head u ps)),
+        one-if-yes (not (placed ps (u .task))) (K .task-ready .fresh),
+      ))
 
   live-put : (cm : ℕ) (ps : List Placement) (u : Placement) → live cm (u ∷ ps) ≤ live cm ps + 1
   unfolding live
@@ -102,9 +110,13 @@ module _ (I : Instance) where
         ended v h (inr k) = absurd (y v h k)
 
         free-all : (P : ℕ) → Holds (free I cm ps P)
-        free-all P = all-of _ ps (λ v h. or-right (not (eqb (v .processor) P)) (leb (finish I v) cm) (le→leb (finish I v) cm (ended v h (le-or-lt (finish I v) cm))))
+        free-all P =
+            all-of _ ps
+            (λ v h. or-right (not (eqb (v .processor) P)) (leb (finish I v) cm)
+            (le→leb (finish I v) cm (ended v h (le-or-lt (finish I v) cm))))
 
-        at : (T : ℕ) → T < tasks I → ((S : ℕ) → S < T → Holds (placed ps S)) → Holds (placed ps T) ⊎ Holds (not (placed ps T)) → Holds (placed ps T)
+        at : (T : ℕ) → T < tasks I → ((S : ℕ) → S < T → Holds (placed ps S)) → Holds (placed ps T) ⊎ Holds (not (placed ps T))
+            → Holds (placed ps T)
         at T b lower (inl k) = k
         at T b lower (inr k) =
             absurd (z T 0 record {
@@ -132,7 +144,8 @@ module _ (I : Instance) where
     run-rest zero st h = refl
     run-rest (suc k) st h = rw (pick-yes (complete I (st .placements)) st _ h) (run-rest k st h)
 
-    run-complete : (k : ℕ) (st : State) → 2 * left (st .placements) + live (st .clock) (st .placements) ≤ suc k → Holds (complete I (run I k st .placements))
+    run-complete : (k : ℕ) (st : State) → 2 * left (st .placements) + live (st .clock) (st .placements) ≤ suc k
+        → Holds (complete I (run I k st .placements))
     unfolding run
     run-complete zero st h = none-left (st .placements) (omega arith)
     run-complete (suc k) st h = go (round I st) (turn I W (st .clock) (st .placements)) (λ nx q. run-complete k nx q)
@@ -141,7 +154,8 @@ module _ (I : Instance) where
         kept c = rw (run-rest k st c) c
 
         go : (nx : State) → Turn I (st .clock) (st .placements) nx
-            → ((s : State) → 2 * left (s .placements) + live (s .clock) (s .placements) ≤ suc k → Holds (complete I (run I k s .placements)))
+            → ((s : State) → 2 * left (s .placements) + live (s .clock) (s .placements) ≤ suc k
+            → Holds (complete I (run I k s .placements)))
             → Holds (complete I (run I k nx .placements))
         go nx (rest c) r = kept c
         go nx (put u K) r =
@@ -149,7 +163,8 @@ module _ (I : Instance) where
             (omega (arith, left-put (st .clock) (st .placements) u K, live-put (st .clock) (st .placements) u))
         go nx (tick x K) r =
             let w = K .whose in
-            r (record { clock = x; placements = st .placements }) (omega (arith, live-tick (st .clock) x (st .placements) (w .0) (w .1) (K .ahead) (w .2)))
+            r (record { clock = x; placements = st .placements })
+            (omega (arith, live-tick (st .clock) x (st .placements) (w .0) (w .1) (K .ahead) (w .2)))
         go nx (stuck y z) r = kept (none-stuck (st .clock) (st .placements) y z)
 
     -- 2m - 1 rounds, or more, place every task

@@ -1,5 +1,5 @@
--- What holds of the clock and the placements after each round: no task twice, no overlap, messages in time, and, what the bound
--- rests on, that a processor is busy from a task's arrival there up to the task's start.
+-- What holds of the clock and the placements after each round: no task twice, no overlap, messages in time.
+-- And, what the bound rests on: a processor is busy from a task's arrival there up to the task's start.
 use mathlib.Core.Path.{_≡_, ap, subst}
 use mathlib.Core.Logic.{_⊎_, inl, inr}
 use mathlib.Core.Bool.{not, _||_}
@@ -16,7 +16,8 @@ use Rattle.etf.specs.Instance.{Instance, WellFormed, tasks, into}
 use Rattle.etf.specs.Schedule.{Placement, placed, placementOf, finish, arrival}
 use Rattle.etf.specs.Rule.{State, free, round, run}
 use Rattle.etf.specs.Cover.{busy}
-use Rattle.etf.specs.Laws.Placements.{placement-head, placement-tail, placed-more, placed-less, placement-of, arrival-ge, arrival-same, busy-in, busy-more}
+use Rattle.etf.specs.Laws.Placements.{placement-head, placement-tail, placed-more, placed-less, placement-of}
+use Rattle.etf.specs.Laws.Placements.{arrival-ge, arrival-same, busy-in, busy-more}
 use Rattle.etf.specs.Laws.Turn.{taken-by, free-of, Ready, NewPlacement, Tick, Turn, rest, put, tick, stuck, turn}
 
 -- each task stands in the list at most once
@@ -34,6 +35,7 @@ module _ (I : Instance) where
   abbrev pub Opened : List Placement → ℕ → Type 0
   Opened ps T = (l : Edge) → l ∈ into I T → Holds (placed ps (l .from))
 
+  -- what holds after each round, of the clock and the placements so far
   pub record Sound (cm : ℕ) (ps : List Placement) : Type 0 where
     pub once : Once ps
     pub apart : NewerLater ps
@@ -52,9 +54,11 @@ module _ (I : Instance) where
     pub full-open : (T P t : ℕ) → Holds (not (placed ps T)) → T < tasks I → Opened ps T → P < I .processors → t < cm → arrival I ps T P ≤ t
         → Holds (busy I ps P t)
     -- from the arrival of a placed task, up to its start, a processor is busy
-    pub full : (u : Placement) → u ∈ ps → (P t : ℕ) → P < I .processors → arrival I ps (u .task) P ≤ t → t < u .start → Holds (busy I ps P t)
+    pub full : (u : Placement) → u ∈ ps → (P t : ℕ) → P < I .processors → arrival I ps (u .task) P ≤ t → t < u .start
+        → Holds (busy I ps P t)
 
-  -- from the arrival of a ready task up to x a processor is busy, if nothing placed finishes before x and the task could not start before x
+  -- from the arrival of a ready task up to x a processor is busy, if nothing placed finishes between the clock and x and the task, where
+  -- the processor is free, could not start before x
   covered : (cm : ℕ) (ps : List Placement) → Sound cm ps → (T P t x : ℕ) → Ready I cm ps T → P < I .processors
       → ((v : Placement) → v ∈ ps → cm < finish I v → x ≤ finish I v) → (Holds (free I cm ps P) → x ≤ max cm (arrival I ps T P))
       → cm ≤ t → t < x → arrival I ps T P ≤ t → Holds (busy I ps P t)
@@ -72,9 +76,14 @@ module _ (I : Instance) where
 
   tick-ready : (cm : ℕ) (ps : List Placement) (x : ℕ) → Tick I cm ps x → (T P t : ℕ) → Holds (not (placed ps T)) → T < tasks I → Opened ps T
       → arrival I ps T P ≤ t → t < x → Ready I cm ps T
-  tick-ready cm ps x K T P t f b o at tx = record { below = b; fresh = f; waits = λ l h. (o l h, by l h (le-or-lt (finish I (placementOf ps (l .from))) cm)) }
+  tick-ready cm ps x K T P t f b o at tx = record {
+    below = b;
+    fresh = f;
+    waits = λ l h. (o l h, by l h (le-or-lt (finish I (placementOf ps (l .from))) cm));
+  }
     where
-      by : (l : Edge) (h : l ∈ into I T) → (finish I (placementOf ps (l .from)) ≤ cm) ⊎ (cm < finish I (placementOf ps (l .from))) → finish I (placementOf ps (l .from)) ≤ cm
+      by : (l : Edge) (h : l ∈ into I T) → (finish I (placementOf ps (l .from)) ≤ cm) ⊎ (cm < finish I (placementOf ps (l .from)))
+          → finish I (placementOf ps (l .from)) ≤ cm
       by l h (inl k) = k
       by l h (inr k) =
           absurd (omega (arith, K .least (placementOf ps (l .from)) (placement-of ps (l .from) (o l h) .0) k, arrival-ge I ps T P l h))
@@ -121,15 +130,26 @@ module _ (I : Instance) where
 
     -- an unplaced task whose predecessors finish by the clock does not have u among them
     ready-back : (T : ℕ) → Ready I cm (u ∷ ps) T → Ready I cm ps T
-    ready-back T r = record { below = r .below; fresh = fails (placed ps T) (λ h. not-both (placed (u ∷ ps) T) (r .fresh) (placed-more u ps T h)); waits = waits }
+    ready-back T r = record {
+      below = r .below;
+      fresh = fails (placed ps T) (λ h. not-both (placed (u ∷ ps) T) (r .fresh) (placed-more u ps T h));
+      waits = waits;
+    }
       where
         by : (l : Edge) → l ∈ into I T → Holds (eqb (u .task) (l .from)) ⊎ Holds (not (eqb (u .task) (l .from)))
             → Holds (placed ps (l .from)) × (finish I (placementOf ps (l .from)) ≤ cm)
         by l h (inl e) =
-            absurd (omega (arith, ends-later, r .waits l h .1, ap (λ v. finish I v) (placement-head u ps (l .from) (eqb→eq (u .task) (l .from) e))))
+            absurd (omega (
+              arith,
+              ends-later,
+              r .waits l h .1,
+              ap (λ v. finish I v) (placement-head u ps (l .from) (eqb→eq (u .task) (l .from) e)),
+            ))
         by l h (inr e) =
-            let ne = neqb→ne (u .task) (l .from) e in
-            (placed-less u ps (l .from) ne (r .waits l h .0), omega (arith, r .waits l h .1, ap (λ v. finish I v) (placement-tail u ps (l .from) ne)))
+            let ne = neqb→ne (u .task) (l .from) e in (
+              placed-less u ps (l .from) ne (r .waits l h .0),
+              omega (arith, r .waits l h .1, ap (λ v. finish I v) (placement-tail u ps (l .from) ne)),
+            )
 
         waits : (l : Edge) → l ∈ into I T → Holds (placed ps (l .from)) × (finish I (placementOf ps (l .from)) ≤ cm)
         waits l h = by l h (either (eqb (u .task) (l .from)))
@@ -144,7 +164,12 @@ module _ (I : Instance) where
       where
         by : Holds (eqb (u .task) (l .from)) ⊎ Holds (not (eqb (u .task) (l .from))) → Holds (placed ps (l .from))
         by (inl e) =
-            absurd (omega (arith, ends-later, arrival-ge I (u ∷ ps) T P l h, ap (λ v. finish I v) (placement-head u ps (l .from) (eqb→eq (u .task) (l .from) e))))
+            absurd (omega (
+              arith,
+              ends-later,
+              arrival-ge I (u ∷ ps) T P l h,
+              ap (λ v. finish I v) (placement-head u ps (l .from) (eqb→eq (u .task) (l .from) e)),
+            ))
         by (inr e) = placed-less u ps (l .from) (neqb→ne (u .task) (l .from) e) (o l h)
 
     ready-open : (T : ℕ) → Ready I cm ps T → Opened ps T
@@ -155,7 +180,8 @@ module _ (I : Instance) where
     full-new P t p at ts = by (le-or-lt cm t)
       where
         by : (cm ≤ t) ⊎ (t < cm) → Holds (busy I ps P t)
-        by (inl k) = covered cm ps S (u .task) P t (u .start) (K .task-ready) p (K .in-time) (K .least (u .task) P (K .task-ready) p) k ts at
+        by (inl k) =
+            covered cm ps S (u .task) P t (u .start) (K .task-ready) p (K .in-time) (K .least (u .task) P (K .task-ready) p) k ts at
         by (inr k) =
             S .full-open (u .task) P t (K .task-ready .fresh) (K .task-ready .below) (ready-open (u .task) (K .task-ready)) p k at
 
@@ -171,24 +197,37 @@ module _ (I : Instance) where
     after-put = record {
       once = (K .task-ready .fresh, S .once);
       apart = (λ v h e. omega (arith, K .when, free-of I cm ps (u .processor) (K .processor-free) v h e), S .apart);
-      in-range = for-cons (λ v. (v .task < tasks I) × (v .processor < I .processors)) (K .task-ready .below, K .processor-below) (S .in-range);
+      in-range = for-cons (λ v. (v .task < tasks I) × (v .processor < I .processors)) (K .task-ready .below, K .processor-below)
+          (S .in-range);
       opened = for-cons (λ v. Opened (u ∷ ps) (v .task)) (λ l h. placed-more u ps (l .from) (ready-open (u .task) (K .task-ready) l h))
           (λ v k l h. placed-more u ps (l .from) (S .opened v k l h));
       arrived = for-cons (λ v. arrival I (u ∷ ps) (v .task) (v .processor) ≤ v .start)
           (omega (arith, K .when, same-arrival (u .task) (u .processor) (ready-open (u .task) (K .task-ready))))
           (λ v k. omega (arith, same-arrival (v .task) (v .processor) (S .opened v k), S .arrived v k));
       by-finish = λ v w h k f. finish-new v h w k f;
-      by-pair = for-cons (λ v. (T P : ℕ) → Ready I cm (u ∷ ps) T → P < I .processors → Holds (free I cm (u ∷ ps) P) → v .start ≤ max cm (arrival I (u ∷ ps) T P))
+      by-pair = for-cons (λ v. (T P : ℕ) → Ready I cm (u ∷ ps) T → P < I .processors → Holds (free I cm (u ∷ ps) P)
+          → v .start ≤ max cm (arrival I (u ∷ ps) T P))
           (λ T P r p f. let q = ready-back T r in omega (arith, same-arrival T P (ready-open T q), K .least T P q p (free-back P f)))
-          (λ v h T P r p f. let q = ready-back T r in omega (arith, same-arrival T P (ready-open T q), S .by-pair v h T P q p (free-back P f)));
+          (λ v h T P r p f. let q = ready-back T r in omega (
+            arith,
+            same-arrival T P (ready-open T q),
+            S .by-pair v h T P q p (free-back P f),
+          ));
       by-arrival = for-cons (λ v. (T : ℕ) → cm < v .start → Ready I cm (u ∷ ps) T → v .start ≤ arrival I (u ∷ ps) T (v .processor))
-          (λ T c r. let q = ready-back T r in omega (arith, same-arrival T (u .processor) (ready-open T q), K .least T (u .processor) q (K .processor-below) (K .processor-free)))
+          (λ T c r. let q = ready-back T r in omega (
+            arith,
+            same-arrival T (u .processor) (ready-open T q),
+            K .least T (u .processor) q (K .processor-below) (K .processor-free),
+          ))
           (λ v h T c r. let q = ready-back T r in omega (arith, same-arrival T (v .processor) (ready-open T q), S .by-arrival v h T c q));
       full-open = λ T P t f b o p tc at.
           let q = open-back T P o (omega arith) in
-          busy-more I u ps P t (S .full-open T P t (fails (placed ps T) (λ h. not-both (placed (u ∷ ps) T) f (placed-more u ps T h))) b q p tc (omega (arith, same-arrival T P q)));
+          busy-more I u ps P t
+          (S .full-open T P t (fails (placed ps T) (λ h. not-both (placed (u ∷ ps) T) f (placed-more u ps T h))) b q p tc
+          (omega (arith, same-arrival T P q)));
       full = for-cons (λ v. (P t : ℕ) → P < I .processors → arrival I (u ∷ ps) (v .task) P ≤ t → t < v .start → Holds (busy I (u ∷ ps) P t))
-          (λ P t p at ts. busy-more I u ps P t (full-new P t p (omega (arith, same-arrival (u .task) P (ready-open (u .task) (K .task-ready)))) ts))
+          (λ P t p at ts. busy-more I u ps P t
+          (full-new P t p (omega (arith, same-arrival (u .task) P (ready-open (u .task) (K .task-ready)))) ts))
           (λ v h P t p at ts. busy-more I u ps P t (S .full v h P t p (omega (arith, same-arrival (v .task) P (S .opened v h))) ts));
     }
 
@@ -217,7 +256,8 @@ module _ (I : Instance) where
       go nx (tick x K) = after-tick (st .clock) (st .placements) x S K
       go nx (stuck y z) = S
 
-  pub sound-run : WellFormed I → (k : ℕ) (st : State) → Sound (st .clock) (st .placements) → Sound (run I k st .clock) (run I k st .placements)
+  pub sound-run : WellFormed I → (k : ℕ) (st : State) → Sound (st .clock) (st .placements)
+      → Sound (run I k st .clock) (run I k st .placements)
   unfolding run
   sound-run W zero st S = S
   sound-run W (suc k) st S = sound-run W k (round I st) (sound-round W st S)

@@ -42,7 +42,8 @@ module _ (processor start d : ℕ → ℕ) where
 
   on-its-own : (T t : ℕ) → one-if (runs T (processor T) t) ≡ one-if (running (start T) (d T) t)
   on-its-own T t =
-      same-tests (runs T (processor T) t) (running (start T) (d T) t) (λ h. second (eqb (processor T) (processor T)) (running (start T) (d T) t) h)
+      same-tests (runs T (processor T) t) (running (start T) (d T) t)
+      (λ h. second (eqb (processor T) (processor T)) (running (start T) (d T) t) h)
       (λ h. both (eqb (processor T) (processor T)) (running (start T) (d T) t) (eq→eqb (processor T) (processor T) refl) h)
 
   -- in all processors and ticks together, each task runs for its duration
@@ -70,7 +71,8 @@ module _ (I : Instance) (R : Ideal I) where
       (λ T h. one-if-most (runs (R .processor) (R .start) (duration I) T P t))
       (λ S T st tm a b. clash S T st tm (one-if-of _ a) (one-if-of _ b))
     where
-      clash : (S T : ℕ) → S < T → T < tasks I → Holds (runs (R .processor) (R .start) (duration I) S P t) → Holds (runs (R .processor) (R .start) (duration I) T P t) → ⊥
+      clash : (S T : ℕ) → S < T → T < tasks I → Holds (runs (R .processor) (R .start) (duration I) S P t)
+          → Holds (runs (R .processor) (R .start) (duration I) T P t) → ⊥
       clash S T st tm a b =
           let x = runs-of (R .processor) (R .start) (duration I) S P t a in
           let y = runs-of (R .processor) (R .start) (duration I) T P t b in
@@ -82,15 +84,18 @@ module _ (I : Instance) (R : Ideal I) where
       omega (
         arith,
         work (R .processor) (R .start) (duration I) (tasks I) (I .processors) F (R .on-processor) e,
-        sum-le F (λ t. sum (I .processors) (λ P. sum (tasks I) (λ T. one-if (runs (R .processor) (R .start) (duration I) T P t)))) (λ t. I .processors) each,
+        sum-le F (λ t. sum (I .processors) (λ P. sum (tasks I) (λ T. one-if (runs (R .processor) (R .start) (duration I) T P t))))
+            (λ t. I .processors) each,
         sum-each F (I .processors),
       )
     where
-      each : (t : ℕ) → t < F → sum (I .processors) (λ P. sum (tasks I) (λ T. one-if (runs (R .processor) (R .start) (duration I) T P t))) ≤ I .processors
+      each : (t : ℕ) → t < F
+          → sum (I .processors) (λ P. sum (tasks I) (λ T. one-if (runs (R .processor) (R .start) (duration I) T P t))) ≤ I .processors
       each t h =
           omega (
             arith,
-            sum-le (I .processors) (λ P. sum (tasks I) (λ T. one-if (runs (R .processor) (R .start) (duration I) T P t))) (λ P. 1) (λ P k. one-at-a-time P t),
+            sum-le (I .processors) (λ P. sum (tasks I) (λ T. one-if (runs (R .processor) (R .start) (duration I) T P t))) (λ P. 1)
+                (λ P k. one-at-a-time P t),
             sum-each (I .processors) 1,
           )
 
@@ -125,7 +130,8 @@ module _ (I : Instance) (ps : List Placement) where
         arith,
         idlers-sum t,
         sum-add (I .processors) (λ P. one-if (busy I ps P t)) (λ P. one-if (not (busy I ps P t))),
-        sum-same (I .processors) (λ P. one-if (busy I ps P t) + one-if (not (busy I ps P t))) (λ P. 1) (λ P h. one-or-other (busy I ps P t)),
+        sum-same (I .processors) (λ P. one-if (busy I ps P t) + one-if (not (busy I ps P t))) (λ P. 1)
+            (λ P h. one-or-other (busy I ps P t)),
         sum-each (I .processors) 1,
       )
 
@@ -137,7 +143,8 @@ module _ (I : Instance) (cm : ℕ) (ps : List Placement) (S : Sound I cm ps) whe
   busy-runs : (P t : ℕ) → one-if (busy I ps P t) ≤ sum (tasks I) (λ T. one-if (our-runs I ps T P t))
   busy-runs P t = go (either (busy I ps P t))
     where
-      at : (u : Placement) → u ∈ ps → u .processor ≡ P → Holds (running (u .start) (duration I (u .task)) t) → Holds (our-runs I ps (u .task) P t)
+      at : (u : Placement) → u ∈ ps → u .processor ≡ P → Holds (running (u .start) (duration I (u .task)) t)
+          → Holds (our-runs I ps (u .task) P t)
       at u h e r =
           rw (placement-once ps (S .once) u h)
           (both (eqb (u .processor) P) (running (u .start) (duration I (u .task)) t) (eq→eqb (u .processor) P e) r)
@@ -154,7 +161,8 @@ module _ (I : Instance) (cm : ℕ) (ps : List Placement) (S : Sound I cm ps) whe
       go (inr h) = omega (arith, one-if-no (busy I ps P t) h)
 
   -- n times a bound on the finishes is at most the durations and the idle ticks together
-  pub our-work : (E : ℕ) → ((T : ℕ) → T < tasks I → placementOf ps T .processor < I .processors) → ((T : ℕ) → T < tasks I → placementOf ps T .start + duration I T ≤ E)
+  pub our-work : (E : ℕ) → ((T : ℕ) → T < tasks I → placementOf ps T .processor < I .processors)
+      → ((T : ℕ) → T < tasks I → placementOf ps T .start + duration I T ≤ E)
       → I .processors * E ≤ sum (tasks I) (duration I) + sum E (idlers I ps)
   our-work E p e =
       omega (
@@ -162,10 +170,14 @@ module _ (I : Instance) (cm : ℕ) (ps : List Placement) (S : Sound I cm ps) whe
         sum-each E (I .processors),
         sum-same E (λ t. sum (I .processors) (λ P. one-if (busy I ps P t)) + idlers I ps t) (λ t. I .processors) (λ t h. busy-idle I ps t),
         sum-add E (λ t. sum (I .processors) (λ P. one-if (busy I ps P t))) (idlers I ps),
-        sum-le E (λ t. sum (I .processors) (λ P. one-if (busy I ps P t))) (λ t. sum (I .processors) (λ P. sum (tasks I) (λ T. one-if (our-runs I ps T P t)))) each,
+        sum-le E (λ t. sum (I .processors) (λ P. one-if (busy I ps P t)))
+            (λ t. sum (I .processors) (λ P. sum (tasks I) (λ T. one-if (our-runs I ps T P t)))) each,
         work (λ T. placementOf ps T .processor) (λ T. placementOf ps T .start) (duration I) (tasks I) (I .processors) E p e,
       )
     where
-      each : (t : ℕ) → t < E → sum (I .processors) (λ P. one-if (busy I ps P t)) ≤ sum (I .processors) (λ P. sum (tasks I) (λ T. one-if (our-runs I ps T P t)))
+      each : (t : ℕ) → t < E
+          → sum (I .processors) (λ P. one-if (busy I ps P t))
+          ≤ sum (I .processors) (λ P. sum (tasks I) (λ T. one-if (our-runs I ps T P t)))
       each t h =
-          sum-le (I .processors) (λ P. one-if (busy I ps P t)) (λ P. sum (tasks I) (λ T. one-if (our-runs I ps T P t))) (λ P k. busy-runs P t)
+          sum-le (I .processors) (λ P. one-if (busy I ps P t)) (λ P. sum (tasks I) (λ T. one-if (our-runs I ps T P t)))
+          (λ P k. busy-runs P t)

@@ -10,7 +10,7 @@ use Rattle.base.specs.Laws.Tests.{le-or-lt}
 use Rattle.base.specs.Laws.Lists.{for-cons, in-nothing}
 use Rattle.job.specs.Job.{Edge}
 use Rattle.etf.specs.Instance.{Instance, WellFormed, tasks, duration, messageTime}
-use Rattle.etf.specs.Schedule.{Placement, placementOf, finish, messageTimeTo, arrival, end}
+use Rattle.etf.specs.Schedule.{Placement, placementOf, finish, messageTimeTo, arrival, lastFinish}
 use Rattle.etf.specs.Rule.{State, begin, round, run, planned}
 use Rattle.etf.specs.Laws.Placements.{placement-of, into-of, arrival-at}
 use Rattle.etf.specs.Laws.Turn.{NewPlacement, Tick, Turn, rest, put, tick, stuck, turn}
@@ -36,7 +36,8 @@ module _ (I : Instance) (W : WellFormed I) (D B : ℕ)
           let v = placementOf ps (l .from) in
           absurd (omega (arith, z .2, low v s, near l (into-of I T l (z .1) .0) (v .processor) P (range v s .1) p))
 
-  -- the clock lies within `count` durations and message times, a finish one message time before; `count` tasks are placed, or more
+  -- the clock lies within `count` durations and message times, a finish one message time before, the arrival of a placed task a duration
+  -- and a message time before; `count` tasks are placed, or more
   record Low (cm : ℕ) (ps : List Placement) : Type 0 where
     pub count : ℕ
     pub counted : count + left I ps ≤ tasks I
@@ -87,7 +88,8 @@ module _ (I : Instance) (W : WellFormed I) (D B : ℕ)
     arrive-by = L .arrive-by;
   }
 
-  low-round : (st : State) → Sound I (st .clock) (st .placements) → Low (st .clock) (st .placements) → Low (round I st .clock) (round I st .placements)
+  low-round : (st : State) → Sound I (st .clock) (st .placements) → Low (st .clock) (st .placements)
+      → Low (round I st .clock) (round I st .placements)
   low-round st S L = go (round I st) (turn I W (st .clock) (st .placements))
     where
       go : (nx : State) → Turn I (st .clock) (st .placements) nx → Low (nx .clock) (nx .placements)
@@ -96,7 +98,8 @@ module _ (I : Instance) (W : WellFormed I) (D B : ℕ)
       go nx (tick x K) = low-tick (st .clock) (st .placements) x L K
       go nx (stuck y z) = L
 
-  low-run : (k : ℕ) (st : State) → Sound I (st .clock) (st .placements) → Low (st .clock) (st .placements) → Low (run I k st .clock) (run I k st .placements)
+  low-run : (k : ℕ) (st : State) → Sound I (st .clock) (st .placements) → Low (st .clock) (st .placements)
+      → Low (run I k st .clock) (run I k st .placements)
   unfolding run
   low-run zero st S L = L
   low-run (suc k) st S L = low-run k (round I st) (sound-round I W st S) (low-round st S L)
@@ -125,9 +128,11 @@ module _ (I : Instance) (W : WellFormed I) (D B : ℕ)
   finish-most = finish-after (2 * tasks I)
 
   -- the end
-  pub end-most : end I (planned I) + B ≤ tasks I * (D + B)
-  unfolding end
-  end-most = let t = last-task I W in omega (arith, t .2 .at-end, finish-most (placementOf (planned I) (t .0)) (home I W (t .0) (t .2 .below) .0))
+  pub last-most : lastFinish I (planned I) + B ≤ tasks I * (D + B)
+  unfolding lastFinish
+  last-most =
+      let t = last-task I W in
+      omega (arith, t .2 .at-last, finish-most (placementOf (planned I) (t .0)) (home I W (t .0) (t .2 .below) .0))
 
   -- the arrival of a task at a processor: m - 1 durations and message times
   pub arrival-most : (T P : ℕ) → T < tasks I → P < I .processors → arrival I (planned I) T P + (D + B) ≤ tasks I * (D + B)

@@ -25,7 +25,8 @@ sooner u v = ltb (u .start) (v .start)
 module _ (I : Instance) where
   -- ---- free processors and ready tasks
 
-  pub free-of : (cm : ℕ) (ps : List Placement) (P : ℕ) → Holds (free I cm ps P) → (u : Placement) → u ∈ ps → u .processor ≡ P → finish I u ≤ cm
+  pub free-of : (cm : ℕ) (ps : List Placement) (P : ℕ) → Holds (free I cm ps P)
+      → (u : Placement) → u ∈ ps → u .processor ≡ P → finish I u ≤ cm
   unfolding free
   free-of cm ps P h u k e = go (or-cases (not (eqb (u .processor) P)) (leb (finish I u) cm) (all-at _ ps h u k))
     where
@@ -33,7 +34,8 @@ module _ (I : Instance) where
       go (inl q) = absurd (neqb→ne (u .processor) P q e)
       go (inr q) = leb→le (finish I u) cm q
 
-  pub taken-by : (cm : ℕ) (ps : List Placement) (P : ℕ) → Holds (not (free I cm ps P)) → (u : Placement) × (u ∈ ps) × (u .processor ≡ P) × (cm < finish I u)
+  pub taken-by : (cm : ℕ) (ps : List Placement) (P : ℕ) → Holds (not (free I cm ps P))
+      → (u : Placement) × (u ∈ ps) × (u .processor ≡ P) × (cm < finish I u)
   unfolding free
   taken-by cm ps P h = go (all-not _ ps h)
     where
@@ -48,7 +50,8 @@ module _ (I : Instance) where
           out true false k = (tt, tt)
           out false b k = absurd k
 
-      go : (u : Placement) × (u ∈ ps) × Holds (not (not (eqb (u .processor) P) || leb (finish I u) cm)) → (u : Placement) × (u ∈ ps) × (u .processor ≡ P) × (cm < finish I u)
+      go : (u : Placement) × (u ∈ ps) × Holds (not (not (eqb (u .processor) P) || leb (finish I u) cm))
+          → (u : Placement) × (u ∈ ps) × (u .processor ≡ P) × (cm < finish I u)
       go z = let r = one (z .0) (z .2) in (z .0, z .1, r .0, r .1)
 
   -- what a ready task is
@@ -67,7 +70,8 @@ module _ (I : Instance) where
         waits = λ l k.
             let d = all-at (finished I cm ps) (into I T) c l k in (
               first (placed ps (l .from)) (leb (finish I (placementOf ps (l .from))) cm) d,
-              leb→le (finish I (placementOf ps (l .from))) cm (second (placed ps (l .from)) (leb (finish I (placementOf ps (l .from))) cm) d),
+              leb→le (finish I (placementOf ps (l .from))) cm
+                  (second (placed ps (l .from)) (leb (finish I (placementOf ps (l .from))) cm) d),
             );
       }
 
@@ -76,7 +80,8 @@ module _ (I : Instance) where
   ready-in cm ps T r =
       both (not (placed ps T)) (all (finished I cm ps) (into I T)) (r .fresh)
       (all-of (finished I cm ps) (into I T)
-      (λ l k. both (placed ps (l .from)) (leb (finish I (placementOf ps (l .from))) cm) (r .waits l k .0) (le→leb (finish I (placementOf ps (l .from))) cm (r .waits l k .1))))
+      (λ l k. both (placed ps (l .from)) (leb (finish I (placementOf ps (l .from))) cm) (r .waits l k .0)
+      (le→leb (finish I (placementOf ps (l .from))) cm (r .waits l k .1))))
 
   -- ---- a round
 
@@ -117,7 +122,8 @@ module _ (I : Instance) where
 
   pub next-is : (cm : ℕ) (ps : List Placement) → Next cm ps (nextMoment I cm ps)
   unfolding nextMoment
-  next-is cm ps = go (best ltb (filter (ltb cm) (map (finish I) ps))) (best-is ltb (by-least (λ x. x)) (filter (ltb cm) (map (finish I) ps)))
+  next-is cm ps =
+      go (best ltb (filter (ltb cm) (map (finish I) ps))) (best-is ltb (by-least (λ x. x)) (filter (ltb cm) (map (finish I) ps)))
     where
       go : (o : Option ℕ) → Best ltb (filter (ltb cm) (map (finish I) ps)) o → Next cm ps o
       go o (nothing z) = endless (λ v h k. z (finish I v) (later-in cm ps v h k))
@@ -131,22 +137,26 @@ module _ (I : Instance) where
         → pair I cm ps T P ∈ pairs I cm ps
     unfolding pairs
     pair-in cm ps T P r b f =
-        flatMap-in (λ S. map (pair I cm ps S) (filter (free I cm ps) (upto (I .processors)))) (filter (ready I cm ps) (I .order)) T (pair I cm ps T P)
+        flatMap-in (λ S. map (pair I cm ps S) (filter (free I cm ps) (upto (I .processors)))) (filter (ready I cm ps) (I .order)) T
+        (pair I cm ps T P)
         (filter-in (ready I cm ps) (I .order) T (W .has-all T (r .below)) (ready-in cm ps T r))
-        (map-in (pair I cm ps T) (filter (free I cm ps) (upto (I .processors))) P (filter-in (free I cm ps) (upto (I .processors)) P (upto-in (I .processors) P b) f))
+        (map-in (pair I cm ps T) (filter (free I cm ps) (upto (I .processors))) P
+        (filter-in (free I cm ps) (upto (I .processors)) P (upto-in (I .processors) P b) f))
 
     pair-of : (cm : ℕ) (ps : List Placement) (u : Placement) → u ∈ pairs I cm ps
         → (T : ℕ) × (P : ℕ) × Ready cm ps T × (P < I .processors) × Holds (free I cm ps P) × (u ≡ pair I cm ps T P)
     unfolding pairs
     pair-of cm ps u h =
-        let g = flatMap-of (λ S. map (pair I cm ps S) (filter (free I cm ps) (upto (I .processors)))) (filter (ready I cm ps) (I .order)) u h in
+        let g =
+        flatMap-of (λ S. map (pair I cm ps S) (filter (free I cm ps) (upto (I .processors)))) (filter (ready I cm ps) (I .order)) u h in
         let r = filter-of (ready I cm ps) (I .order) (g .0) (g .1) in
         let p = map-of (pair I cm ps (g .0)) (filter (free I cm ps) (upto (I .processors))) u (g .2) in
         let f = filter-of (free I cm ps) (upto (I .processors)) (p .0) (p .1) in
         (g .0, p .0, ready-of cm ps (g .0) (W .has-only (g .0) (r .0)) (r .1), upto-of (I .processors) (p .0) (f .0), f .1, p .2)
 
     -- the chosen pair, if its start is at most NM, makes a placing
-    put-of : (cm : ℕ) (ps : List Placement) (u : Placement) → u ∈ pairs I cm ps → ((v : Placement) → v ∈ pairs I cm ps → u .start ≤ v .start)
+    put-of : (cm : ℕ) (ps : List Placement) (u : Placement) → u ∈ pairs I cm ps
+        → ((v : Placement) → v ∈ pairs I cm ps → u .start ≤ v .start)
         → ((v : Placement) → v ∈ ps → cm < finish I v → u .start ≤ finish I v) → NewPlacement cm ps u
     unfolding pair
     put-of cm ps u h le k =
@@ -160,11 +170,15 @@ module _ (I : Instance) where
           in-time = λ v q a. omega (arith, ap (λ (p : Placement). p .start) (z .5), k v q a);
         }
 
+    -- how a round goes
     pub turn : (cm : ℕ) (ps : List Placement) → Turn cm ps (round I (record { clock = cm; placements = ps }))
     unfolding round settle move atMost choice pair
-    turn cm ps = go (complete I ps) refl (nextMoment I cm ps) refl (next-is cm ps) (choice I cm ps) (best-is sooner (by-least (λ u. u .start)) (pairs I cm ps))
+    turn cm ps =
+        go (complete I ps) refl (nextMoment I cm ps) refl (next-is cm ps) (choice I cm ps)
+        (best-is sooner (by-least (λ u. u .start)) (pairs I cm ps))
       where
-        placing : (nm : Option ℕ) → nextMoment I cm ps ≡ nm → Next cm ps nm → (u : Placement) → u ∈ pairs I cm ps → ((v : Placement) → v ∈ pairs I cm ps → u .start ≤ v .start)
+        placing : (nm : Option ℕ) → nextMoment I cm ps ≡ nm → Next cm ps nm
+            → (u : Placement) → u ∈ pairs I cm ps → ((v : Placement) → v ∈ pairs I cm ps → u .start ≤ v .start)
             → (b : Bool) → atMost (u .start) nm ≡ b
             → Turn cm ps (pick b (record { clock = cm; placements = u ∷ ps }) (move (record { clock = cm; placements = ps }) nm))
         placing nm i (endless z) u h le true e = put u (put-of cm ps u h le (λ v q a. absurd (z v q a)))
@@ -177,13 +191,25 @@ module _ (I : Instance) where
               moment = i;
               ahead = a;
               least = l;
-              too-late = λ T P r b f. omega (arith, nleb→lt (u .start) x (subst (λ c. Holds (not c)) (sym e) tt), le (pair I cm ps T P) (pair-in cm ps T P r b f));
+              too-late = λ T P r b f.
+                  omega (
+                    arith,
+                    nleb→lt (u .start) x (subst (λ c. Holds (not c)) (sym e) tt),
+                    le (pair I cm ps T P) (pair-in cm ps T P r b f),
+                  );
             }
 
-        go : (b : Bool) → complete I ps ≡ b → (nm : Option ℕ) → nextMoment I cm ps ≡ nm → Next cm ps nm → (o : Option Placement) → Best sooner (pairs I cm ps) o
+        go : (b : Bool) → complete I ps ≡ b → (nm : Option ℕ) → nextMoment I cm ps ≡ nm → Next cm ps nm
+            → (o : Option Placement) → Best sooner (pairs I cm ps) o
             → Turn cm ps (pick b (record { clock = cm; placements = ps }) (settle (record { clock = cm; placements = ps }) nm o))
         go true e nm i N o L = rest (subst Holds (sym e) tt)
         go false e nm i (endless y) o (nothing z) = stuck y (λ T P r b f. z (pair I cm ps T P) (pair-in cm ps T P r b f))
         go false e nm i (at x w a l) o (nothing z) =
-            tick x record { whose = w; moment = i; ahead = a; least = l; too-late = λ T P r b f. absurd (z (pair I cm ps T P) (pair-in cm ps T P r b f)) }
+            tick x record {
+              whose = w;
+              moment = i;
+              ahead = a;
+              least = l;
+              too-late = λ T P r b f. absurd (z (pair I cm ps T P) (pair-in cm ps T P r b f));
+            }
         go false e nm i N o (found u h le) = placing nm i N u h (λ v k. nltb→le (v .start) (u .start) (le v k)) (atMost (u .start) nm) refl

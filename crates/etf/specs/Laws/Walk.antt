@@ -1,5 +1,5 @@
--- Any walk over the planner's schedule: the idle ticks before a task's finish against an ideal schedule's finish of that task and the walk's sum,
--- which a chain of edges bounds.
+-- Any walk over the planner's schedule: the idle ticks before a task's finish against its finish in an ideal schedule and the walk's sum.
+-- A chain of edges bounds the sum.
 use mathlib.Core.Path.{_≡_, ap}
 use mathlib.Core.List.{List}
 use Prim.Native.Nat.{ℕ, zero, suc, _+_, _*_, _≤_, _<_}
@@ -43,6 +43,7 @@ module _ (I : Instance) (W : WellFormed I) where
             (λ t x y. omega (arith, e, idlers-less I ps (placementOf ps T) (h .0) (on-processor I W T b) t x y)),
       )
 
+  -- the idle ticks before a task's start, by a walk from it
   pub walk-bound : (R : Ideal I) (q : ℕ) → I .processors ≡ suc q → (T C : ℕ) → T < tasks I → Walk I ps T C
       → idle-before I ps (finish I (placementOf ps T)) ≤ q * (R .start T + duration I T) + I .processors * C
   walk-bound R q e T C h (stops _ z) = omega (arith, own q e T h, none-idle I ps (placementOf ps T .start) z)
@@ -55,7 +56,8 @@ module _ (I : Instance) (W : WellFormed I) where
         own q e T h,
         idle-until I ps (placementOf ps T .start) (s .tick) (s .is-latest),
         sum-grows (idlers I ps) (suc (s .tick)) (reach I ps (b .through) l) (s .reaches-after),
-        sum-stretch (idlers I ps) (finish I (placementOf ps (l .from))) (messageTimeTo I ps (b .through) l) (I .processors) (λ t x y. idlers-most I ps t),
+        sum-stretch (idlers I ps) (finish I (placementOf ps (l .from))) (messageTimeTo I ps (b .through) l) (I .processors)
+            (λ t x y. idlers-most I ps t),
         walk-bound R q e (l .from) D (f .1) w,
         mul-le-mul-left q (R .in-turn l (i .0)),
         ap (λ x. q * R .start x) (i .1),
@@ -69,7 +71,8 @@ module _ (I : Instance) (W : WellFormed I) where
       (omega (
         arith,
         greatest-ge (λ q. I .cost Q q) (upto (I .processors)) P (upto-in (I .processors) P p),
-        greatest-ge (λ x. greatest (λ q. I .cost x q) (upto (I .processors))) (upto (I .processors)) Q (upto-in (I .processors) Q (on-processor I W (l .from) b)),
+        greatest-ge (λ x. greatest (λ q. I .cost x q) (upto (I .processors))) (upto (I .processors)) Q
+            (upto-in (I .processors) Q (on-processor I W (l .from) b)),
       ))
 
   walk-chain : (k T C : ℕ) → T < k → T < tasks I → Walk I ps T C → C ≤ dearestTo I k T

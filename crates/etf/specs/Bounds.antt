@@ -1,0 +1,32 @@
+-- How great the numbers of an accepted job can be: each bound comes from the ones before it and from the limits of document 01.
+use mathlib.Core.Path.{_≡_, refl}
+use Prim.Native.Nat.{ℕ, _+_, _*_, _-_}
+use Rattle.job.specs.Limits.{mostUnit, mostDuration, mostCount, mostTasks}
+
+-- the hops of a way: a ring's are at most half of its processors, a hypercube's at most four
+abbrev pub mostHops : ℕ
+mostHops = 8
+
+-- 01: "No cost passes 800"
+abbrev pub mostCost : ℕ
+mostCost = mostUnit * mostHops
+
+-- the messages of one edge
+abbrev pub mostMessageTime : ℕ
+mostMessageTime = mostCount * mostCost
+
+-- 01: "no planned time passes 460,000,000": each task takes its duration, and all but one wait for messages
+abbrev pub mostFinish : ℕ
+mostFinish = mostTasks * mostDuration + (mostTasks - 1) * mostMessageTime
+
+-- when messages can be there
+abbrev pub mostArrival : ℕ
+mostArrival = mostFinish + mostMessageTime
+
+-- the messages along a chain of edges
+abbrev pub mostChain : ℕ
+mostChain = (mostTasks - 1) * mostMessageTime
+
+-- as document 01 has them
+pub as-written : (mostCost ≡ 800) × (mostFinish ≡ 460000000)
+as-written = (refl, refl)
