@@ -1,4 +1,4 @@
--- The calls on inputs of document 01: its cases A and H, and the small input of the refusal table for 9, held to the definitions by computing them.
+-- The calls, computed by their definitions on inputs of document 01: its cases A and H, and the small input of the refusal table for 9.
 use mathlib.Core.Option.{orElse, bind}
 use mathlib.Core.Path.{_≡_, refl}
 use mathlib.Core.List.{List, [], _∷_, _++_, map, flatMap}
@@ -12,18 +12,19 @@ use Rattle.job.specs.Record.{kindOf, bodyLength, platformIn, durationIn, edgeIn
 use Rattle.job.specs.Record.{countInRange, inRange, joins, rises, aboveLast, misfit, added}
 use Rattle.job.specs.Read.{after, judged, records, readJob}
 use Rattle.etf.specs.Instance.{duration, into, messageTime}
-use Rattle.etf.specs.Schedule.{placed, placementOf, messageTimeTo, arrival, end, scheduleOf}
-use Rattle.etf.specs.Topology.{hops, cost}
+use Rattle.etf.specs.Schedule.{placed, placementOf, messageTimeTo, arrival, lastFinish, end, scheduleOf}
+use Rattle.etf.specs.Topology.{hops, cost, square}
 use Rattle.etf.specs.Rule.{atMost, move, settle, nextMoment, free, finished, ready, pair, pairs, choice, complete, round, run, planned}
 use Rattle.etf.specs.Cover.{running, busy, idle, someIdle, latestIdleTick, lowestIdle, later, latestInto, back, walk, lastTask, cover}
 use Rattle.etf.specs.Dearest.{greatestCost, dearestTo, dearest}
 use Rattle.etf.specs.Checker.{firstAnswer, misplaced, overlap, early, check}
-use Rattle.etf.specs.OfJob.{instance}
+use Rattle.etf.specs.OfJob.{costsOf, instance}
 use Rattle.schedule.specs.declared.Planned.the-variants.{Plan, Refused}
 use Rattle.schedule.specs.declared.Covered.the-variants.{Cover, Refused as NotCovered}
 use Rattle.schedule.specs.declared.Checked.the-variants.{Yes, Refused as NotChecked}
-use Rattle.schedule.specs.Plan.{called, scratchAt, planAccepted, startOf, processorOf, planFor, planCall}
-use Rattle.schedule.specs.Cover.{covered, coverAccepted, coverFor, coverCall}
+use Rattle.schedule.specs.Call.{called, startOf, processorOf, scratchAt, laidOut, tooShort, callFor}
+use Rattle.schedule.specs.Plan.{endOf, outcome, planCall}
+use Rattle.schedule.specs.Cover.{figures, coverCall}
 use Rattle.schedule.specs.Check.{checkOf, checkedAs, checkFor, checkCall}
 
 -- a rack of two boards, flat, c = 2, and steps of so many ticks
@@ -59,7 +60,7 @@ scratch-a = map (scratchAt (instance job-a)) (0 ∷ 17 ∷ 32 ∷ 33 ∷ 34 ∷ 
 -- each call on its input
 pub cases-hold :
     -- the planner: m and the end, the starts and the processors, places past m as they were; the scratch by place
-    (planCall file-a (7 ∷ 7 ∷ 7 ∷ 8 ∷ []) (7 ∷ 7 ∷ 7 ∷ []) (replicate 4096 7) .answer ≡ Plan 3 8)
+    (planCall file-a (7 ∷ 7 ∷ 7 ∷ 8 ∷ []) (7 ∷ 7 ∷ 7 ∷ []) (replicate 4096 7) .answer ≡ Plan (record { tasks = 3; end = 8 }))
     × (planCall file-a (7 ∷ 7 ∷ 7 ∷ 8 ∷ []) (7 ∷ 7 ∷ 7 ∷ []) (replicate 4096 7) .starts ≡ 0 ∷ 0 ∷ 6 ∷ 8 ∷ [])
     × (planCall file-a (7 ∷ 7 ∷ 7 ∷ 8 ∷ []) (7 ∷ 7 ∷ 7 ∷ []) (replicate 4096 7) .processors ≡ 0 ∷ 1 ∷ 1 ∷ [])
     × (scratch-a ≡ 0 ∷ 0 ∷ 9 ∷ 6 ∷ 0 ∷ 0 ∷ 0 ∷ [])
@@ -68,21 +69,22 @@ pub cases-hold :
     × (planCall apart (7 ∷ 7 ∷ []) (7 ∷ []) (replicate 4096 8) ≡ called (Refused 9) (7 ∷ 7 ∷ []) (7 ∷ []) (replicate 4096 8))
     × (planCall apart (7 ∷ 7 ∷ []) (7 ∷ 7 ∷ []) (replicate 4095 8) ≡ called (Refused 9) (7 ∷ 7 ∷ []) (7 ∷ 7 ∷ []) (replicate 4095 8))
     -- the cover call: C and the dearest chain, the slices as the planner leaves them; 9 for each slice, and the reader's number
-    × (coverCall file-a (7 ∷ 7 ∷ 7 ∷ 8 ∷ []) (7 ∷ 7 ∷ 7 ∷ []) (replicate 4096 7) .answer ≡ Cover 6 6)
+    × (coverCall file-a (7 ∷ 7 ∷ 7 ∷ 8 ∷ []) (7 ∷ 7 ∷ 7 ∷ []) (replicate 4096 7) .answer ≡ Cover (record { cover = 6; dearest = 6 }))
     × (coverCall file-a (7 ∷ 7 ∷ 7 ∷ 8 ∷ []) (7 ∷ 7 ∷ 7 ∷ []) (replicate 4096 7) .starts ≡ 0 ∷ 0 ∷ 6 ∷ 8 ∷ [])
-    × (coverCall file-h (7 ∷ 7 ∷ 7 ∷ []) (7 ∷ 7 ∷ 7 ∷ []) (replicate 4096 7) .answer ≡ Cover 5 5)
-    × (coverCall apart (7 ∷ []) (7 ∷ 7 ∷ []) (replicate 4096 8) ≡ covered (NotCovered 9) (7 ∷ []) (7 ∷ 7 ∷ []) (replicate 4096 8))
-    × (coverCall apart (7 ∷ 7 ∷ []) (7 ∷ []) (replicate 4096 8) ≡ covered (NotCovered 9) (7 ∷ 7 ∷ []) (7 ∷ []) (replicate 4096 8))
-    × (coverCall apart (7 ∷ 7 ∷ []) (7 ∷ 7 ∷ []) (replicate 4095 8) ≡ covered (NotCovered 9) (7 ∷ 7 ∷ []) (7 ∷ 7 ∷ []) (replicate 4095 8))
-    × (coverCall (1 ∷ 2 ∷ 0 ∷ []) (7 ∷ []) [] [] ≡ covered (NotCovered 1) (7 ∷ []) [] [])
+    × (coverCall file-h (7 ∷ 7 ∷ 7 ∷ []) (7 ∷ 7 ∷ 7 ∷ []) (replicate 4096 7) .answer ≡ Cover (record { cover = 5; dearest = 5 }))
+    × (coverCall apart (7 ∷ []) (7 ∷ 7 ∷ []) (replicate 4096 8) ≡ called (NotCovered 9) (7 ∷ []) (7 ∷ 7 ∷ []) (replicate 4096 8))
+    × (coverCall apart (7 ∷ 7 ∷ []) (7 ∷ []) (replicate 4096 8) ≡ called (NotCovered 9) (7 ∷ 7 ∷ []) (7 ∷ []) (replicate 4096 8))
+    × (coverCall apart (7 ∷ 7 ∷ []) (7 ∷ 7 ∷ []) (replicate 4095 8) ≡ called (NotCovered 9) (7 ∷ 7 ∷ []) (7 ∷ 7 ∷ []) (replicate 4095 8))
+    × (coverCall (1 ∷ 2 ∷ 0 ∷ []) (7 ∷ []) [] [] ≡ called (NotCovered 1) (7 ∷ []) [] [])
     -- the checker: 9 for each slice; places past m are not read
     × (checkCall apart (0 ∷ []) (0 ∷ 1 ∷ []) ≡ NotChecked 9)
     × (checkCall apart (0 ∷ 0 ∷ []) (0 ∷ []) ≡ NotChecked 9)
     × (checkCall apart (0 ∷ 5 ∷ 0 ∷ []) (0 ∷ 0 ∷ 99 ∷ []) ≡ Yes)
-unfolding planCall planFor planAccepted coverCall coverFor coverAccepted filled scratchAt checkCall checkFor checkedAs checkOf startOf
+unfolding planCall outcome endOf coverCall figures callFor laidOut tooShort filled scratchAt checkCall checkFor checkedAs checkOf startOf
     processorOf number readJob blank records judged after kindOf bodyLength stands noRack full inRange platformInRange durationInRange
     countInRange misfit joins aboveLast rises added platformIn durationIn edgeIn flatMap upto any all filter greatest keep best
-    duration into messageTime placed placementOf messageTimeTo arrival end scheduleOf hops cost atMost move settle nextMoment free
-    finished ready pair pairs choice complete round run planned running busy idle someIdle latestIdleTick lowestIdle later latestInto back
-    walk lastTask cover greatestCost dearestTo dearest firstAnswer misplaced overlap early check instance orElse bind
+    duration into messageTime placed placementOf messageTimeTo arrival lastFinish end scheduleOf hops cost square costsOf
+    atMost move settle nextMoment free finished ready pair pairs choice complete round run planned
+    running busy idle someIdle latestIdleTick lowestIdle later latestInto back walk lastTask cover greatestCost dearestTo dearest
+    firstAnswer misplaced overlap early check instance orElse bind
 cases-hold = (refl, refl, refl, refl, refl, refl, refl, refl, refl, refl, refl, refl, refl, refl, refl, refl, refl)

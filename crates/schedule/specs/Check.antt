@@ -14,7 +14,8 @@ use Rattle.etf.specs.OfJob.{instance}
 use Rattle.schedule.specs.declared.Checked.{Checked}
 use Rattle.schedule.specs.declared.Checked.the-variants.{Yes, Refused}
 
--- what the checker says of a plan, a processor and a start for each task (01: "A plan gives each step a board .. and a start"): none is a yes
+-- what the checker says of a plan, a processor and a start for each task; none is a yes.
+-- 01: "A plan gives each step a board .. and a start"
 unfoldable pub checkOf : Instance → (ℕ → ℕ) → (ℕ → ℕ) → Option ℕ
 checkOf I processor start = check I (scheduleOf I processor start)
 
@@ -28,7 +29,8 @@ unfoldable pub numberOf : Option ℕ → ℕ
 numberOf none = 0
 numberOf (some k) = k
 
--- 01: "A plan slice of the checker shorter than m is 9; places past m are not read"; a refused job "is passed on with the reader's own number"
+-- 01: "A plan slice of the checker shorter than m is 9; places past m are not read";
+-- a refused job "is passed on with the reader's own number"
 unfoldable pub checkFor : Answer → List ℕ → List ℕ → Checked
 checkFor (accepted j) starts processors =
     pick (ltb (length starts) (tasks (instance j)) || ltb (length processors) (tasks (instance j))) (Refused 9)

@@ -2,19 +2,16 @@
 -- A reader of the public contracts needs nothing of this file.
 use mathlib.Core.Logic.{_⊎_}
 use mathlib.Core.Path.{_≡_}
-use mathlib.Core.List.{List, []}
+use mathlib.Core.List.{List}
 use Prim.Native.Nat.{ℕ, zero, suc, _+_, _*_, _≤_, _<_}
 use lib.Dec.{ltb, eqb}
 use lib.ListN.{length, getD}
 use Rattle.base.specs.Choice.{pick}
 use Rattle.base.specs.Rows.{most}
 use Rattle.etf.specs.Instance.{Instance}
-use Rattle.etf.specs.Cover.{cover}
-use Rattle.etf.specs.Dearest.{dearest}
-use Rattle.schedule.specs.declared.Covered.{Covered}
-use Rattle.schedule.specs.declared.Covered.the-variants.{Cover}
-use Rattle.schedule.specs.Plan.{startOf, processorOf}
-use Rattle.schedule.specs.Pass.{Ran}
+use Rattle.etf.specs.Topology.{entry}
+use Rattle.etf.specs.Bounds.{mostMessageTime, mostFinish}
+use Rattle.schedule.specs.Call.{startOf, processorOf}
 
 -- r is the first of the n places whose value is the greatest; `none` where each is 0
 pub record FirstMost (none n : ℕ) (f : ℕ → ℕ) (r : ℕ) : Type 0 where
@@ -22,12 +19,6 @@ pub record FirstMost (none n : ℕ) (f : ℕ → ℕ) (r : ℕ) : Type 0 where
   pub below : 0 < most n f → r < n
   pub at-most : 0 < most n f → f r ≡ most n f
   pub first : 0 < most n f → (i : ℕ) → i < r → f i < most n f
-
--- the first k tasks stand in the first k places of `order`, by start
-pub record ByStart (starts : List ℕ) (k : ℕ) (order : List ℕ) : Type 0 where
-  pub within : (i : ℕ) → i < k → getD order i 0 < k
-  pub each : (T : ℕ) → T < k → (i : ℕ) × (i < k) × (getD order i 0 ≡ T)
-  pub rising : (i j : ℕ) → i ≤ j → j < k → getD starts (getD order i 0) 0 ≤ getD starts (getD order j 0) 0
 
 -- ---- the latest short tick
 
@@ -44,7 +35,7 @@ module _ (m : ℕ) (durations starts processors : List ℕ) where
     pub has-starts : m ≤ length starts
     pub has-processors : m ≤ length processors
     pub takes-time : (T : ℕ) → T < m → 1 ≤ getD durations T 0
-    pub in-time : (T : ℕ) → T < m → getD starts T 0 + getD durations T 0 ≤ 460000000
+    pub in-time : (T : ℕ) → T < m → getD starts T 0 + getD durations T 0 ≤ mostFinish
     pub on-processor : (T : ℕ) → T < m → getD processors T 0 < n
     pub apart : (T U : ℕ) → T < m → U < m → ¬ (T ≡ U) → getD processors T 0 ≡ getD processors U 0
         → (getD starts T 0 + getD durations T 0 ≤ getD starts U 0) ⊎ (getD starts U 0 + getD durations U 0 ≤ getD starts T 0)
@@ -80,18 +71,18 @@ module _ (m : ℕ) (durations starts processors : List ℕ) where
 -- ---- the moves back
 
 -- the task that edge k comes from has its places in the arrays, and no time on the way passes 32 bits
-pub record Sender (durations from counts starts processors : List ℕ) (k : ℕ) : Type 0 where
+pub record Sender (durations from counts : List ℕ) (costs : List (List ℕ)) (starts processors : List ℕ) (k : ℕ) : Type 0 where
   pub has-start : getD from k 0 < length starts
   pub has-duration : getD from k 0 < length durations
   pub has-processor : getD from k 0 < length processors
   pub on-processor : getD processors (getD from k 0) 0 < 16
-  pub in-time : getD starts (getD from k 0) 0 + getD durations (getD from k 0) 0 ≤ 460000000
-  pub few-messages : getD counts k 0 ≤ 1000
+  pub in-time : getD starts (getD from k 0) 0 + getD durations (getD from k 0) 0 ≤ mostFinish
+  pub near : (P : ℕ) → getD counts k 0 * entry costs (getD processors (getD from k 0) 0) P ≤ mostMessageTime
 
 module _ (durations from to counts : List ℕ) (costs : List (List ℕ)) (starts processors : List ℕ) where
   -- the time of edge k's messages to processor P, and when they are there
   unfoldable pub messageAt : ℕ → ℕ → ℕ
-  messageAt P k = getD counts k 0 * getD (getD costs (getD processors (getD from k 0) 0) []) P 0
+  messageAt P k = getD counts k 0 * entry costs (getD processors (getD from k 0) 0) P
 
   unfoldable pub reachAt : ℕ → ℕ → ℕ
   reachAt P k = getD starts (getD from k 0) 0 + getD durations (getD from k 0) 0 + messageAt P k
@@ -100,8 +91,8 @@ module _ (durations from to counts : List ℕ) (costs : List (List ℕ)) (starts
   unfoldable pub reachInto : ℕ → ℕ → ℕ → ℕ
   reachInto T P k = pick (eqb (getD to k 0) T) (reachAt P k) 0
 
-  -- of the first l edges the first whose messages are at P the latest is the one that the walk goes back along from task T, to `back`; `back` is 256
-  -- where there is none
+  -- the walk goes back from task T to `back`, along the first of those of the first l edges whose messages are at P the latest;
+  -- `back` is 256 where there is none
   pub record MovesBack (l T P back time : ℕ) : Type 0 where
     pub edge : ℕ
     pub is-first : FirstMost 1024 l (reachInto T P) edge
@@ -109,7 +100,8 @@ module _ (durations from to counts : List ℕ) (costs : List (List ℕ)) (starts
     pub goes : 0 < most l (reachInto T P) → (back ≡ getD from edge 0) × (time ≡ messageAt P edge)
 
 -- the moves back from each of m tasks, through the processors that `through` has
-pub record Moves (m l : ℕ) (durations from to counts : List ℕ) (costs : List (List ℕ)) (starts processors through back time : List ℕ) : Type 0 where
+pub record Moves (m l : ℕ) (durations from to counts : List ℕ) (costs : List (List ℕ))
+    (starts processors through back time : List ℕ) : Type 0 where
   pub moves : (T : ℕ) → T < m → getD through T 0 < 16
       → MovesBack durations from to counts costs starts processors l T (getD through T 0) (getD back T 0) (getD time T 0)
   pub stays : (T : ℕ) → T < m → 16 ≤ getD through T 0 → getD back T 0 ≡ 256
@@ -123,15 +115,21 @@ alongBack back time (suc k) T = pick (ltb (getD back T 0) 256) (getD time T 0 + 
 
 -- the greatest cost between two of the first n processors
 unfoldable pub greatestIn : List (List ℕ) → ℕ → ℕ
-greatestIn costs n = most n (λ p. most n (λ q. getD (getD costs p []) q 0))
+greatestIn costs n = most n (λ p. most n (λ q. entry costs p q))
 
 -- what a chain takes whose last edge is edge k, by what the chains to its predecessor take
 unfoldable pub chainBy : List ℕ → List ℕ → ℕ → (ℕ → ℕ) → ℕ → ℕ
 chainBy from counts cost sums k = sums (getD from k 0) + getD counts k 0 * cost
 
--- `sums` has for each task what the dearest chain to it takes
-abbrev pub Chained : List ℕ → List ℕ → List ℕ → ℕ → ℕ → (ℕ → ℕ) → Type 0
-Chained from to counts l cost sums = (T : ℕ) → sums T ≡ most l (λ k. pick (eqb (getD to k 0) T) (chainBy from counts cost sums k) 0)
+-- what the dearest chain of at most j edges to task T takes, of the first l edges
+unfoldable pub chainTo : List ℕ → List ℕ → List ℕ → ℕ → ℕ → ℕ → ℕ → ℕ
+chainTo from to counts l cost zero T = 0
+chainTo from to counts l cost (suc j) T =
+    most l (λ k. pick (eqb (getD to k 0) T) (chainBy from counts cost (chainTo from to counts l cost j) k) 0)
+
+-- the dearest chain of the first l edges: one to a task below 256 has at most 255
+unfoldable pub dearestIn : List ℕ → List ℕ → List ℕ → ℕ → ℕ → ℕ
+dearestIn from to counts l cost = most l (chainBy from counts cost (chainTo from to counts l cost 256))
 
 -- ---- a plan in arrays
 
@@ -141,9 +139,3 @@ pub record HoldsPlan (I : Instance) (m : ℕ) (starts processors : List ℕ) : T
   pub has-processors : m ≤ length processors
   pub starts-are : (T : ℕ) → T < m → getD starts T 0 ≡ startOf I T
   pub processors-are : (T : ℕ) → T < m → getD processors T 0 ≡ processorOf I T
-
--- what planning a job and measuring the plan leaves: what planning leaves, and the answer
-pub record Measured (I : Instance) (m : ℕ) (r : Covered) (starts starts′ processors processors′ arrivals arrivals′ : List ℕ) : Type 0 where
-  pub end : ℕ
-  pub ran : Ran I m end starts starts′ processors processors′ arrivals arrivals′
-  pub answer-is : r ≡ Cover (cover I) (dearest I)

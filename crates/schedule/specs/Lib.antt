@@ -1,6 +1,10 @@
+pub mod InArrays
+pub mod Call
 pub mod Plan
 pub mod Cover
 pub mod Check
+pub mod Lent
+pub mod Answered
 pub mod Cases
 pub mod OwnPlan
 pub mod Pass

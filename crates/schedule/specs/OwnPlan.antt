@@ -1,24 +1,27 @@
 -- The checker accepts what the planner leaves in the slices, for every file and whatever they held before.
 use mathlib.Core.Bool.{true, false}
-use mathlib.Core.Path.{_≡_, refl}
+use mathlib.Core.Path.{_≡_}
 use mathlib.Core.List.{List}
 use Prim.Native.Nat.{ℕ}
 use Rattle.base.specs.Laws.Tests.{impossible}
-use Rattle.job.specs.Read.{Answer, accepted, refused, readJob}
 use Rattle.job.specs.Accepted.{accepted-job}
-use Rattle.schedule.specs.declared.Planned.the-variants.{Plan}
+use Rattle.etf.specs.Instance.{Instance}
+use Rattle.schedule.specs.declared.Outcome.{Outcome}
+use Rattle.schedule.specs.declared.Planned.{Planned}
+use Rattle.schedule.specs.declared.Planned.the-variants.{Plan, Refused}
 use Rattle.schedule.specs.declared.Checked.the-variants.{Yes}
-use Rattle.schedule.specs.Plan.{planFor, planCall}
-use Rattle.schedule.specs.Check.{checkFor, checkCall}
-use Rattle.schedule.specs.Laws.OwnPlan.{slices-yes}
+use Rattle.schedule.specs.Call.{laidOut}
+use Rattle.schedule.specs.Plan.{outcome, planCall}
+use Rattle.schedule.specs.Check.{checkCall}
+use Rattle.schedule.specs.Answered.{accepted-as}
+use Rattle.schedule.specs.Laws.Checker.OwnPlan.{filled-yes}
 
 -- where the planner plans, the checker says yes to its starts and processors
-pub slices-accepted : (file starts processors scratch : List ℕ) (m e : ℕ) → planCall file starts processors scratch .answer ≡ Plan m e
+pub slices-accepted : (file starts processors scratch : List ℕ) (o : Outcome) → planCall file starts processors scratch .answer ≡ Plan o
     → checkCall file (planCall file starts processors scratch .starts) (planCall file starts processors scratch .processors) ≡ Yes
-unfolding planCall planFor checkCall
-slices-accepted file starts processors scratch m e h = go (readJob file) refl h
-  where
-    go : (a : Answer) → readJob file ≡ a → planFor a starts processors scratch .answer ≡ Plan m e
-        → checkFor a (planFor a starts processors scratch .starts) (planFor a starts processors scratch .processors) ≡ Yes
-    go (accepted j) r w = slices-yes j (accepted-job file j r) starts processors scratch m e w
-    go (refused k) r w = let z : false ≡ true = cc in impossible z
+unfolding planCall checkCall laidOut
+slices-accepted file starts processors scratch o h =
+    let answer : Instance → Planned = λ I. Plan (outcome I) in
+    let P = accepted-as file starts processors scratch Refused answer (Plan o) (λ k e. let z : false ≡ true = cc in impossible z) h in
+    rw (P .call-is, P .says)
+    (filled-yes (P .job) (accepted-job file (P .job) (P .says)) starts processors (P .has-room .for-starts) (P .has-room .for-processors))

@@ -9,51 +9,26 @@ use lib.ListN.{length, getD, set}
 use Rattle.base.specs.Choice.{pick}
 use Rattle.base.specs.Lists.{values, upto, filter}
 use Rattle.base.specs.Rows.{sum, one-if, most}
-use Rattle.base.specs.Slices.{filled}
 use Rattle.job.specs.declared.Platform.{Platform}
-use Rattle.job.specs.Accepted.{Accepted}
-use Rattle.job.specs.Write.{heldJob, gathered}
-use Rattle.etf.specs.Instance.{Instance}
-use Rattle.etf.specs.Schedule.{end}
-use Rattle.etf.specs.Topology.{cost, square}
-use Rattle.etf.specs.Rule.{planned}
+use Rattle.job.specs.Limits.{mostUnit, mostDuration}
+use Rattle.etf.specs.Instance.{Instance, tasks}
+use Rattle.etf.specs.Bounds.{mostMessageTime, mostFinish}
+use Rattle.etf.specs.Topology.{entry}
+use Rattle.etf.specs.Checker.{latestStart}
+use Rattle.schedule.specs.declared.Laid.{Laid}
+use Rattle.schedule.specs.declared.Laid.the-variants.{End, Short}
 use Rattle.schedule.specs.declared.planner.Pair.{Pair}
 use Rattle.schedule.specs.declared.planner.Moment.{Moment}
 use Rattle.schedule.specs.declared.planner.Choice.{Choice}
-use Rattle.schedule.specs.Plan.{startOf, processorOf, scratchAt}
+use Rattle.schedule.specs.Call.{Call, called, arrivalPlaces, laidOut, tooShort}
+use Rattle.schedule.specs.Plan.{endOf}
 
 -- ---- numbers and tests over a row of places
-
--- r is the first place below m where `bad` holds, or m where there is none
-pub record First (bad : ℕ → Type 0) (m r : ℕ) : Type 0 where
-  pub to-most : r ≤ m
-  pub before : (T : ℕ) → T < r → bad T → ⊥
-  pub there : r < m → bad r
 
 -- one of f i .. f (i + k - 1) is true
 unfoldable pub someIn : (ℕ → Bool) → ℕ → ℕ → Bool
 someIn f i zero = false
 someIn f i (suc k) = f i || someIn f (suc i) k
-
--- ---- the task graph
-
--- r is the first edge, at or after edge k, from task T or a later one
-pub record FirstFrom (from : List ℕ) (l T k r : ℕ) : Type 0 where
-  pub from-k : k ≤ r
-  pub to-most : r ≤ l
-  pub before : (i : ℕ) → k ≤ i → i < r → getD from i 0 < T
-  pub there : r < l → T ≤ getD from r 0
-
--- `runs` has at T the first edge from task T or a later one
-pub record Runs (from : List ℕ) (m l : ℕ) (runs : List ℕ) : Type 0 where
-  pub size : length runs ≡ 257
-  pub within : (T : ℕ) → T ≤ m → getD runs T 0 ≤ l
-  pub before : (T i : ℕ) → T ≤ m → i < getD runs T 0 → getD from i 0 < T
-  pub after : (T i : ℕ) → T ≤ m → getD runs T 0 ≤ i → i < l → T ≤ getD from i 0
-
--- the number of the first k edges that go to task T
-unfoldable pub edgesTo : List ℕ → ℕ → ℕ → ℕ
-edgesTo to k T = sum k (λ i. one-if (eqb (getD to i 0) T))
 
 -- ---- the search for a pair
 
@@ -100,19 +75,44 @@ placedMark = 65535
 unfoldable pub canStart : ℕ → List ℕ → List ℕ → ℕ → Bool
 canStart clock waiting latest T = eqb (getD waiting T 0) 0 && leb (getD latest T 0) clock
 
--- the search, k tasks from task T on, with b the best so far
-unfoldable pub searched : ℕ → List ℕ → List ℕ → (ℕ → List Pair) → ℕ → ℕ → Pair → Pair
-searched clock waiting latest row T zero b = b
-searched clock waiting latest row T (suc k) b =
-    searched clock waiting latest row (suc T) k (pick (canStart clock waiting latest T) (firstBest b (row T)) b)
+-- the search over k places of the order, from place i on, with b the best so far
+unfoldable pub searched : ℕ → List ℕ → List ℕ → (ℕ → ℕ) → (ℕ → List Pair) → ℕ → ℕ → Pair → Pair
+searched clock waiting latest order row i zero b = b
+searched clock waiting latest order row i (suc k) b =
+    searched clock waiting latest order row (suc i) k (pick (canStart clock waiting latest (order i)) (firstBest b (row (order i))) b)
 
--- what a look over processors and tasks finds: the next moment and, with the free processors listed somewhere, the pair
-pub record Looked (clock low m n : ℕ) (busy waiting latest arrivals : List ℕ) (r : Choice) : Type 0 where
+-- ---- what the planner keeps
+
+-- what has been sent to the tasks: the arrivals, how many predecessors each task waits for, and when the latest of the others finished
+pub record Inbox : Type 0 where
+  pub arrivals : List ℕ
+  pub waiting : List ℕ
+  pub latest : List ℕ
+
+abbrev pub inbox : List ℕ → List ℕ → List ℕ → Inbox
+inbox arrivals waiting latest = record { arrivals = arrivals; waiting = waiting; latest = latest }
+
+-- the plan so far, until when each processor is busy, and what has been sent
+pub record Tables : Type 0 where
+  pub starts : List ℕ
+  pub processors : List ℕ
+  pub busy : List ℕ
+  pub inbox : Inbox
+
+abbrev pub tables : List ℕ → List ℕ → List ℕ → Inbox → Tables
+tables starts processors busy sent = record { starts = starts; processors = processors; busy = busy; inbox = sent }
+
+-- task T marked as placed
+abbrev pub marked : ℕ → Inbox → Inbox
+marked T B = inbox (B .arrivals) (set (B .waiting) T placedMark) (B .latest)
+
+-- a look over processors and tasks: the next moment and, with the free processors listed somewhere, the pair
+pub record Looked (clock low m n : ℕ) (order : ℕ → ℕ) (B : Inbox) (busy : List ℕ) (r : Choice) : Type 0 where
   pub free : List ℕ
   pub count : ℕ
   pub next : r .next ≡ soonest busy clock n
   pub listed : values (λ i. getD free i 0) 0 count ≡ freeAmong busy clock n
-  pub found : r .pair ≡ searched clock waiting latest (rowOf clock arrivals free count) low (m - low) noPair
+  pub found : r .pair ≡ searched clock (B .waiting) (B .latest) order (rowOf clock (B .arrivals) free count) low (m - low) noPair
 
 -- ---- placing a task
 
@@ -126,47 +126,64 @@ pub record Raised (n T finish count : ℕ) (row before after : List ℕ) : Type 
 unfoldable pub sentTo : List ℕ → ℕ → ℕ → ℕ → Bool
 sentTo to first T k = leb first k && eqb (getD to k 0) T
 
--- what arrivals, waiting counts and latest finishes are before and after a task sends along the edges `first` to before `last`
-pub record Sent (first last finish n : ℕ) (row to counts arrivals arrivals′ waiting waiting′ latest latest′ : List ℕ) : Type 0 where
-  pub arrivals-at : (T P : ℕ) → P < n → getD arrivals′ (16 * T + P) 0 ≡
-      max (getD arrivals (16 * T + P) 0) (most last (λ k. pick (sentTo to first T k) (finish + getD counts k 0 * getD row P 0) 0))
-  pub arrivals-spare : (T P : ℕ) → n ≤ P → P < 16 → getD arrivals′ (16 * T + P) 0 ≡ getD arrivals (16 * T + P) 0
-  pub waiting-at : (T : ℕ) → getD waiting′ T 0 + sum last (λ k. one-if (sentTo to first T k)) ≡ getD waiting T 0
-  pub latest-at : (T : ℕ) → getD latest′ T 0 ≡ max (getD latest T 0) (most last (λ k. pick (sentTo to first T k) finish 0))
+-- what sending asks, along the edges `first` to before `last`, of a task that finishes at `finish`; `row` has the costs from its processor
+pub record ToSend (first last finish n : ℕ) (row to counts : List ℕ) (B : Inbox) : Type 0 where
+  pub rises : first ≤ last
+  pub has-to : last ≤ length to
+  pub has-counts : last ≤ length counts
+  pub few-processors : n ≤ 16
+  pub in-time : finish ≤ mostFinish
+  pub near : (k P : ℕ) → k < last → getD counts k 0 * getD row P 0 ≤ mostMessageTime
+  pub enough : (T : ℕ) → sum last (λ k. one-if (sentTo to first T k)) ≤ getD (B .waiting) T 0
+  pub row-size : length row ≡ 16
+  pub arrivals-room : 4096 ≤ length (B .arrivals)
+  pub waiting-size : length (B .waiting) ≡ 256
+  pub latest-size : length (B .latest) ≡ 256
 
--- a placement written down
-pub record WrittenDown (T P start finish : ℕ) (starts starts′ processors processors′ busy busy′ waiting waiting′ : List ℕ) : Type 0 where
-  pub starts-are : starts′ ≡ set starts T start
-  pub processors-are : processors′ ≡ set processors T P
-  pub busy-are : busy′ ≡ set busy P finish
-  pub waiting-are : waiting′ ≡ set waiting T placedMark
+-- what the inbox is before and after
+pub record Sent (first last finish n : ℕ) (row to counts : List ℕ) (B B′ : Inbox) : Type 0 where
+  pub arrivals-at : (T P : ℕ) → P < n → getD (B′ .arrivals) (16 * T + P) 0 ≡
+      max (getD (B .arrivals) (16 * T + P) 0) (most last (λ k. pick (sentTo to first T k) (finish + getD counts k 0 * getD row P 0) 0))
+  pub arrivals-spare : (T P : ℕ) → n ≤ P → P < 16 → getD (B′ .arrivals) (16 * T + P) 0 ≡ getD (B .arrivals) (16 * T + P) 0
+  pub waiting-at : (T : ℕ) → getD (B′ .waiting) T 0 + sum last (λ k. one-if (sentTo to first T k)) ≡ getD (B .waiting) T 0
+  pub latest-at : (T : ℕ) → getD (B′ .latest) T 0 ≡ max (getD (B .latest) T 0) (most last (λ k. pick (sentTo to first T k) finish 0))
 
--- the first task from `low` on, below m, that is not marked as placed
-pub record Skipped (waiting : List ℕ) (low m r : ℕ) : Type 0 where
+-- the first place of the order from `low` on, below m, whose task is not marked as placed
+pub record Skipped (waiting : List ℕ) (order : ℕ → ℕ) (low m r : ℕ) : Type 0 where
   pub from-low : low ≤ r
   pub to-most : r ≤ m
-  pub marked : (T : ℕ) → low ≤ T → T < r → getD waiting T 0 ≡ placedMark
-  pub unmarked : r < m → getD waiting r 0 ≡ placedMark → ⊥
+  pub passed : (i : ℕ) → low ≤ i → i < r → getD waiting (order i) 0 ≡ placedMark
+  pub left : r < m → getD waiting (order r) 0 ≡ placedMark → ⊥
 
--- a pair placed: written down, its edges sent along, and the first task that is left
-pub record Placed (pair : Pair) (finish first last low m n : ℕ)
-    (row to counts starts starts′ processors processors′ arrivals arrivals′ waiting waiting′ latest latest′ busy busy′ : List ℕ) (r : ℕ) : Type 0 where
-  pub starts-are : starts′ ≡ set starts (pair .task) (pair .start)
-  pub processors-are : processors′ ≡ set processors (pair .task) (pair .processor)
-  pub busy-are : busy′ ≡ set busy (pair .processor) finish
-  pub sent : Sent first last finish n row to counts arrivals arrivals′ (set waiting (pair .task) placedMark) waiting′ latest latest′
-  pub skipped : Skipped waiting′ low m r
+-- what placing a pair asks
+pub record ToPlace (pair : Pair) (finish first last low m n : ℕ) (row to counts : List ℕ) (S : Tables) : Type 0 where
+  pub has-start : pair .task < length (S .starts)
+  pub has-processor : pair .task < length (S .processors)
+  pub task-below : pair .task < 256
+  pub processor-below : pair .processor < 16
+  pub low-most : low ≤ m
+  pub few-tasks : m ≤ 256
+  pub busy-size : length (S .busy) ≡ 16
+  pub sending : ToSend first last finish n row to counts (marked (pair .task) (S .inbox))
 
--- ---- a job in arrays
+-- a pair placed: written down, its edges sent along, and the first place of the order that is left
+pub record Placed (pair : Pair) (finish first last low m n : ℕ) (order : ℕ → ℕ) (row to counts : List ℕ)
+    (S S′ : Tables) (r : ℕ) : Type 0 where
+  pub starts-are : S′ .starts ≡ set (S .starts) (pair .task) (pair .start)
+  pub processors-are : S′ .processors ≡ set (S .processors) (pair .task) (pair .processor)
+  pub busy-are : S′ .busy ≡ set (S .busy) (pair .processor) finish
+  pub sent : Sent first last finish n row to counts (marked (pair .task) (S .inbox)) (S′ .inbox)
+  pub skipped : Skipped (S′ .inbox .waiting) order low m r
 
--- what planner and checker are handed: the arrays of an accepted job, and its costs
-pub record InArrays (platform : Platform) (m l : ℕ) (durations from to counts : List ℕ) (costs : List (List ℕ)) : Type 0 where
-  pub accepted : Accepted (heldJob platform m l (gathered durations from to counts))
-  pub durations-size : length durations ≡ 256
-  pub from-size : length from ≡ 1024
-  pub to-size : length to ≡ 1024
-  pub counts-size : length counts ≡ 1024
-  pub costs-are : costs ≡ square (platform .processors) (cost platform)
+-- ---- link costs
+
+-- a platform of which a cost can be told: it has a topology, and no cost passes 32 bits
+pub record Wired (platform : Platform) : Type 0 where
+  pub few-processors : platform .processors ≤ 16
+  pub known-topology : platform .topology ≤ 2
+  pub small-unit : platform .unit ≤ mostUnit
+
+-- ---- the slices
 
 -- the borrowed slices have room, and the arrivals begin with 4,096 zeros
 pub record Room (m : ℕ) (starts processors arrivals : List ℕ) : Type 0 where
@@ -175,16 +192,16 @@ pub record Room (m : ℕ) (starts processors arrivals : List ℕ) : Type 0 where
   pub for-arrivals : 4096 ≤ length arrivals
   pub zeros : (x : ℕ) → x < 4096 → getD arrivals x 0 ≡ 0
 
--- what planning leaves: the end, and the three slices
-pub record Ran (I : Instance) (m r : ℕ) (starts starts′ processors processors′ arrivals arrivals′ : List ℕ) : Type 0 where
-  pub end-is : r ≡ end I (planned I)
-  pub starts-are : starts′ ≡ filled (startOf I) m starts
-  pub processors-are : processors′ ≡ filled (processorOf I) m processors
-  pub arrivals-are : arrivals′ ≡ filled (scratchAt I) 4096 arrivals
-
 -- one of three slices of these lengths is too short for m tasks
 unfoldable pub shortOf : ℕ → ℕ → ℕ → ℕ → Bool
 shortOf m starts processors scratch = ltb starts m || (ltb processors m || ltb scratch 4096)
+
+-- the plan of an instance laid out, where there is room
+unfoldable pub layCall : Instance → List ℕ → List ℕ → List ℕ → Call Laid
+layCall I starts processors scratch =
+    pick (tooShort arrivalPlaces (tasks I) starts processors scratch)
+    (called Short starts processors scratch)
+    (laidOut (λ J. End (endOf J)) I starts processors scratch)
 
 -- ---- the checker, in terms of the arrays
 
@@ -194,12 +211,12 @@ pub record Judgeable (m : ℕ) (durations starts processors : List ℕ) : Type 0
   pub has-durations : m ≤ length durations
   pub has-starts : m ≤ length starts
   pub has-processors : m ≤ length processors
-  pub short : (T : ℕ) → T < m → getD durations T 0 ≤ 1000000
-  pub in-time : (T : ℕ) → T < m → getD starts T 0 ≤ 600000000
+  pub short : (T : ℕ) → T < m → getD durations T 0 ≤ mostDuration
+  pub in-time : (T : ℕ) → T < m → getD starts T 0 ≤ latestStart
 
 -- 10 or 11 for task T, or 0
 unfoldable pub placeTrouble : ℕ → List ℕ → List ℕ → ℕ → ℕ
-placeTrouble n starts processors T = pick (not (ltb (getD processors T 0) n)) 10 (pick (ltb 600000000 (getD starts T 0)) 11 0)
+placeTrouble n starts processors T = pick (not (ltb (getD processors T 0) n)) 10 (pick (ltb latestStart (getD starts T 0)) 11 0)
 
 -- the first trouble of k tasks from task T on, or 0
 unfoldable pub placeTroubles : ℕ → List ℕ → List ℕ → ℕ → ℕ → ℕ
@@ -224,4 +241,17 @@ module _ (durations starts processors : List ℕ) where
   earlyAt from to counts costs k =
       ltb (getD starts (getD to k 0) 0)
       (getD starts (getD from k 0) 0 + getD durations (getD from k 0) 0
-      + getD counts k 0 * getD (getD costs (getD processors (getD from k 0) 0) []) (getD processors (getD to k 0) 0) 0)
+      + getD counts k 0 * entry costs (getD processors (getD from k 0) 0) (getD processors (getD to k 0) 0))
+
+  -- edge k joins two tasks that can be judged: their places are there, and no sum passes 32 bits
+  pub record Joined (from to counts : List ℕ) (costs : List (List ℕ)) (k : ℕ) : Type 0 where
+    pub sender-has-start : getD from k 0 < length starts
+    pub sender-has-duration : getD from k 0 < length durations
+    pub sender-has-processor : getD from k 0 < length processors
+    pub sender-on-processor : getD processors (getD from k 0) 0 < 16
+    pub sender-in-time : getD starts (getD from k 0) 0 ≤ latestStart
+    pub sender-short : getD durations (getD from k 0) 0 ≤ mostDuration
+    pub has-start : getD to k 0 < length starts
+    pub has-processor : getD to k 0 < length processors
+    pub on-processor : getD processors (getD to k 0) 0 < 16
+    pub near : getD counts k 0 * entry costs (getD processors (getD from k 0) 0) (getD processors (getD to k 0) 0) ≤ mostMessageTime

@@ -1,15 +1,13 @@
 // The dearest chain (document 01, "The cover C").
-use job::Platform;
 ghost use mathlib.Core.Path.{_≡_};
 ghost use mathlib.Core.List.{[]};
-ghost use Prim.Native.Nat.{ℕ, _≤_, _<_};
+ghost use Prim.Native.Nat.{ℕ, _*_, _≤_, _<_};
 ghost use lib.ListN.{length, getD};
 ghost use Rattle.base.specs.Rows.{most as mostOf};
-ghost use Rattle.job.specs.Write.{heldJob, gathered};
-ghost use Rattle.etf.specs.OfJob.{instance};
 ghost use Rattle.etf.specs.Dearest.{dearest as dearestOf};
-ghost use Rattle.schedule.specs.Pass.{InArrays};
-ghost use Rattle.schedule.specs.CoverPass.{greatestIn, chainBy, Chained};
+ghost use Rattle.etf.specs.Bounds.{mostMessageTime};
+ghost use Rattle.schedule.specs.InArrays.{byNumber, instanceIn, Plannable};
+ghost use Rattle.schedule.specs.CoverPass.{greatestIn, dearestIn};
 
 // The greatest of the first n numbers of a row.
 fn greatest_in(row: &[u32], n: usize) -> u32
@@ -48,10 +46,11 @@ fn greatest_cost(costs: [[u32; 16]; 16], n: usize) -> u32
 
 // The dearest chain of edges, where a message costs `cost`. Edges rise by from, so the sum at a task is whole before an edge leaves it.
 fn sum(edges: usize, from: &[u8], to: &[u8], counts: &[u16], cost: u32) -> u32
-    requires { ⌜ (edges ≤ length (now from)) × (edges ≤ length (now to)) × (edges ≤ length (now counts)) × (cost ≤ 800) ⌝ }
+    requires { ⌜ (edges ≤ length (now from)) × (edges ≤ length (now to)) × (edges ≤ length (now counts)) ⌝ }
     requires { ⌜ ((i k : ℕ) → i ≤ k → k < edges → getD (now from) i 0 ≤ getD (now from) k 0) ⌝ }
-    requires { ⌜ ((k : ℕ) → k < edges → (getD (now from) k 0 < getD (now to) k 0) × (getD (now to) k 0 < 256) × (getD (now counts) k 0 ≤ 1000)) ⌝ }
-    ensures { λ r. ⌜ ((sums : ℕ → ℕ) → Chained (now (from .entry)) (now (to .entry)) (now (counts .entry)) edges cost sums → r ≡ mostOf edges (chainBy (now (from .entry)) (now (counts .entry)) cost sums)) ⌝ }
+    requires { ⌜ ((k : ℕ) → k < edges → (getD (now from) k 0 < getD (now to) k 0) × (getD (now to) k 0 < 256)) ⌝ }
+    requires { ⌜ ((k : ℕ) → k < edges → getD (now counts) k 0 * cost ≤ mostMessageTime) ⌝ }
+    ensures { λ r. ⌜ r ≡ dearestIn (now (from .entry)) (now (to .entry)) (now (counts .entry)) edges cost ⌝ }
 {
     let mut sums = [0u32; 256];
     let mut most: u32 = 0;
@@ -71,9 +70,9 @@ fn sum(edges: usize, from: &[u8], to: &[u8], counts: &[u16], cost: u32) -> u32
     most
 }
 
-// The dearest chain of a job.
+// The dearest chain of an instance.
 pub fn dearest<'a>(
-    platform: Platform,
+    n: usize,
     tasks: usize,
     edges: usize,
     durations: &'a [u32],
@@ -82,10 +81,10 @@ pub fn dearest<'a>(
     counts: &'a [u16],
     costs: [[u32; 16]; 16],
 ) -> u32
-    requires { ⌜ InArrays platform tasks edges (now durations) (now from) (now to) (now counts) costs ⌝ }
-    ensures { λ r. ⌜ r ≡ dearestOf (instance
-        (heldJob platform tasks edges (gathered (now (durations .entry)) (now (from .entry)) (now (to .entry)) (now (counts .entry))))) ⌝ }
+    requires { ⌜ Plannable (byNumber n tasks edges (now durations) (now from) (now to) (now counts) costs) ⌝ }
+    ensures { λ r. ⌜ r ≡ dearestOf (instanceIn
+        (byNumber n tasks edges (now (durations .entry)) (now (from .entry)) (now (to .entry)) (now (counts .entry)) costs)) ⌝ }
 {
-    let cost = greatest_cost(costs, base::index(platform.processors));
+    let cost = greatest_cost(costs, n);
     sum(edges, from, to, counts, cost)
 }

@@ -1,56 +1,25 @@
 // The checker (document 01, "The checker"): the number of a plan's first trouble, or 0 for none.
-use job::Platform;
 ghost use mathlib.Core.Path.{_≡_};
-ghost use mathlib.Core.List.{[]};
 ghost use Prim.Native.Nat.{ℕ, _≤_, _<_};
 ghost use lib.ListN.{length, getD};
-ghost use Rattle.job.specs.Write.{heldJob, gathered};
-ghost use Rattle.etf.specs.OfJob.{instance};
 ghost use Rattle.schedule.specs.Check.{checkOf, numberOf};
-ghost use Rattle.schedule.specs.Pass.{InArrays, Judgeable, First, someIn, placeTroubles, overlapsLater, earlyAt};
-
-// The first task whose processor is not below n, or `tasks`.
-fn first_absent(tasks: usize, n: usize, processors: &[u8]) -> usize
-    requires { ⌜ tasks ≤ length (now processors) ⌝ }
-    ensures { λ r. ⌜ First (λ T. n ≤ getD (now (processors .entry)) T 0) tasks r ⌝ }
-{
-    let mut t: usize = 0;
-    while t < tasks {
-        if n <= base::index(processors[t]) {
-            return t;
-        }
-        t += 1;
-    }
-    tasks
-}
-
-// The first task that starts after 600,000,000, or `tasks`.
-fn first_late(tasks: usize, starts: &[u32]) -> usize
-    requires { ⌜ tasks ≤ length (now starts) ⌝ }
-    ensures { λ r. ⌜ First (λ T. 600000000 < getD (now (starts .entry)) T 0) tasks r ⌝ }
-{
-    let mut t: usize = 0;
-    while t < tasks {
-        if 600000000 < starts[t] {
-            return t;
-        }
-        t += 1;
-    }
-    tasks
-}
+ghost use Rattle.schedule.specs.InArrays.{byNumber, instanceIn, Plannable};
+ghost use Rattle.schedule.specs.Pass.{Judgeable, Joined, someIn, placeTroubles, overlapsLater, earlyAt};
 
 // Task by task: 10 for its processor, then 11 for its start.
 fn misplaced(tasks: usize, n: usize, starts: &[u32], processors: &[u8]) -> u8
     requires { ⌜ (tasks ≤ length (now starts)) × (tasks ≤ length (now processors)) ⌝ }
     ensures { λ r. ⌜ r ≡ placeTroubles n (now (starts .entry)) (now (processors .entry)) 0 tasks ⌝ }
 {
-    let absent = first_absent(tasks, n, processors);
-    let late = first_late(tasks, starts);
-    if late < absent {
-        return 11;
-    }
-    if absent < tasks {
-        return 10;
+    let mut t: usize = 0;
+    while t < tasks {
+        if n <= base::index(processors[t]) {
+            return 10;
+        }
+        if 600000000 < starts[t] {
+            return 11;
+        }
+        t += 1;
     }
     0
 }
@@ -103,7 +72,6 @@ fn any_overlap(tasks: usize, durations: &[u32], starts: &[u32], processors: &[u8
 
 // Whether a task starts before the messages of one of its edges are there.
 fn any_early(
-    tasks: usize,
     edges: usize,
     durations: &[u32],
     from: &[u8],
@@ -113,10 +81,10 @@ fn any_early(
     starts: &[u32],
     processors: &[u8],
 ) -> bool
-    requires { ⌜ Judgeable tasks (now durations) (now starts) (now processors) × (edges ≤ length (now from)) × (edges ≤ length (now to)) × (edges ≤ length (now counts)) ⌝ }
-    requires { ⌜ ((k : ℕ) → k < edges → (getD (now from) k 0 < tasks) × (getD (now to) k 0 < tasks) × (getD (now counts) k 0 ≤ 1000)) ⌝ }
-    requires { ⌜ ((T : ℕ) → T < tasks → getD (now processors) T 0 < 16) × ((p q : ℕ) → getD (getD costs p []) q 0 ≤ 800) ⌝ }
-    ensures { λ r. ⌜ r ≡ someIn (earlyAt (now (durations .entry)) (now (starts .entry)) (now (processors .entry)) (now (from .entry)) (now (to .entry)) (now (counts .entry)) costs) 0 edges ⌝ }
+    requires { ⌜ (edges ≤ length (now from)) × (edges ≤ length (now to)) × (edges ≤ length (now counts)) ⌝ }
+    requires { ⌜ ((k : ℕ) → k < edges → Joined (now durations) (now starts) (now processors) (now from) (now to) (now counts) costs k) ⌝ }
+    ensures { λ r. ⌜ r ≡ someIn (earlyAt (now (durations .entry)) (now (starts .entry)) (now (processors .entry))
+        (now (from .entry)) (now (to .entry)) (now (counts .entry)) costs) 0 edges ⌝ }
 {
     let mut k: usize = 0;
     while k < edges {
@@ -136,7 +104,7 @@ fn any_early(
 
 // The number of the plan's first trouble, or 0.
 pub fn trouble<'a>(
-    platform: Platform,
+    n: usize,
     tasks: usize,
     edges: usize,
     durations: &'a [u32],
@@ -147,20 +115,19 @@ pub fn trouble<'a>(
     starts: &[u32],
     processors: &[u8],
 ) -> u8
-    requires { ⌜ InArrays platform tasks edges (now durations) (now from) (now to) (now counts) costs ⌝ }
+    requires { ⌜ Plannable (byNumber n tasks edges (now durations) (now from) (now to) (now counts) costs) ⌝ }
     requires { ⌜ (tasks ≤ length (now starts)) × (tasks ≤ length (now processors)) ⌝ }
-    ensures { λ r. ⌜ r ≡ numberOf (checkOf (instance
-        (heldJob platform tasks edges (gathered (now (durations .entry)) (now (from .entry)) (now (to .entry)) (now (counts .entry)))))
+    ensures { λ r. ⌜ r ≡ numberOf (checkOf (instanceIn
+        (byNumber n tasks edges (now (durations .entry)) (now (from .entry)) (now (to .entry)) (now (counts .entry)) costs))
         (λ T. getD (now (processors .entry)) T 0) (λ T. getD (now (starts .entry)) T 0)) ⌝ }
 {
-    let number = misplaced(tasks, base::index(platform.processors), starts, processors);
+    let number = misplaced(tasks, n, starts, processors);
     if number != 0 {
         return number;
     }
     // Both rules between tasks are looked at; 12 is judged before 13.
     let overlap = any_overlap(tasks, durations, starts, processors);
     let early = any_early(
-        tasks,
         edges,
         durations,
         from,

@@ -4,6 +4,7 @@ use job::Platform;
 ghost use mathlib.Core.Path.{_≡_};
 ghost use Prim.Native.Nat.{_≤_, _<_};
 ghost use Rattle.etf.specs.Topology.{ringHops, hops as hopsOf, cost as costOf, square as squareOf};
+ghost use Rattle.schedule.specs.Pass.{Wired};
 
 // 01: "the smaller of the difference d of p and q, and n - d".
 fn ring_hops(n: usize, p: usize, q: usize) -> u32
@@ -19,7 +20,7 @@ fn ring_hops(n: usize, p: usize, q: usize) -> u32
 
 // The hops between two different processors, by topology: 0 complete, 1 hypercube, 2 ring.
 fn hops(platform: Platform, p: usize, q: usize) -> u32
-    requires { ⌜ (platform .processors ≤ 16) × (platform .topology ≤ 2) × (p < platform .processors) × (q < platform .processors) ⌝ }
+    requires { ⌜ Wired platform × (p < platform .processors) × (q < platform .processors) ⌝ }
     ensures { λ r. ⌜ r ≡ hopsOf platform p q ⌝ }
 {
     let topology = platform.topology;
@@ -34,7 +35,7 @@ fn hops(platform: Platform, p: usize, q: usize) -> u32
 
 // What one message takes from processor p to processor q.
 fn cost(platform: Platform, p: usize, q: usize) -> u32
-    requires { ⌜ (platform .processors ≤ 16) × (platform .topology ≤ 2) × (platform .unit ≤ 100) × (p < platform .processors) × (q < platform .processors) ⌝ }
+    requires { ⌜ Wired platform × (p < platform .processors) × (q < platform .processors) ⌝ }
     ensures { λ r. ⌜ r ≡ costOf platform p q ⌝ }
 {
     if p == q {
@@ -45,7 +46,7 @@ fn cost(platform: Platform, p: usize, q: usize) -> u32
 
 // The costs as a square of sixteen rows of sixteen, 0 where a processor is absent.
 pub fn square(platform: Platform) -> [[u32; 16]; 16]
-    requires { ⌜ (platform .processors ≤ 16) × (platform .topology ≤ 2) × (platform .unit ≤ 100) ⌝ }
+    requires { ⌜ Wired platform ⌝ }
     ensures { λ r. ⌜ r ≡ squareOf (platform .processors) (costOf platform) ⌝ }
 {
     let n = base::index(platform.processors);

@@ -2,34 +2,44 @@
 mod chains;
 mod checker;
 mod costs;
-mod graph;
 mod hypercube;
 mod planner;
 mod walk;
 
-use job::Platform;
 use job::Verdict;
 ghost use mathlib.Core.Path.{_≡_};
 ghost use Prim.Native.Nat.{_≤_};
 ghost use lib.ListN.{length};
 ghost use Rattle.base.specs.Slices.{filled};
-ghost use Rattle.job.specs.Write.{heldJob, gathered};
-ghost use Rattle.etf.specs.OfJob.{instance};
-ghost use Rattle.schedule.specs.Plan.{called, planCall};
-ghost use Rattle.schedule.specs.Cover.{covered, coverCall};
+ghost use Rattle.schedule.specs.InArrays.{byNumber, instanceIn, Plannable};
+ghost use Rattle.schedule.specs.Call.{called};
+ghost use Rattle.schedule.specs.Plan.{planCall};
+ghost use Rattle.schedule.specs.Cover.{figures, coverCall};
 ghost use Rattle.schedule.specs.Check.{checkCall};
-ghost use Rattle.schedule.specs.Pass.{InArrays, Room, shortOf};
-ghost use Rattle.schedule.specs.CoverPass.{Measured};
+ghost use Rattle.schedule.specs.Pass.{shortOf, layCall};
+ghost use Rattle.schedule.specs.CoverPass.{HoldsPlan};
 
-// What planning a job gives: the number of its tasks and the plan's end, or the refusal's number.
+// What planning a job gives: the number of its tasks and the plan's end.
+pub struct Outcome {
+    pub tasks: usize,
+    pub end: u32,
+}
+
+// That, or the refusal's number.
 pub enum Planned {
-    Plan { tasks: usize, end: u32 },
+    Plan(Outcome),
     Refused(u8),
 }
 
-// What the cover call gives: the cover and the dearest chain of the planner's plan, or the refusal's number.
+// What the cover call gives: the cover and the dearest chain of the planner's plan.
+pub struct Figures {
+    pub cover: u32,
+    pub dearest: u32,
+}
+
+// That, or the refusal's number.
 pub enum Covered {
-    Cover { cover: u32, dearest: u32 },
+    Cover(Figures),
     Refused(u8),
 }
 
@@ -37,6 +47,12 @@ pub enum Covered {
 pub enum Checked {
     Yes,
     Refused(u8),
+}
+
+// What laying a plan out gives: its end, or that a slice is too short.
+pub enum Laid {
+    End(u32),
+    Short,
 }
 
 // Whether a slice is too short, by the lengths of the three: fewer starts or processors than tasks, or fewer than 4,096 places of scratch.
@@ -64,39 +80,9 @@ fn clear(scratch: &mut [u32])
     }
 }
 
-// Plans the job of a file (01: the planner).
-pub fn plan(file: &[u8], starts: &mut [u32], processors: &mut [u8], scratch: &mut [u32]) -> Planned
-    ensures { λ r. ⌜ called r (now (starts .exit)) (now (processors .exit)) (now (scratch .exit)) ≡ planCall (now (file .entry)) (now (starts .entry)) (now (processors .entry)) (now (scratch .entry)) ⌝ }
-{
-    let r = job::read(file);
-    let verdict = r.verdict;
-    let Verdict::Counts { tasks, edges } = verdict else {
-        return Planned::Refused(job::number(verdict));
-    };
-    if too_short(tasks, starts.len(), processors.len(), scratch.len()) {
-        return Planned::Refused(9);
-    }
-    clear(scratch);
-    let costs = costs::square(r.platform);
-    let end = planner::run(
-        r.platform,
-        tasks,
-        edges,
-        &r.arrays.durations,
-        &r.arrays.from,
-        &r.arrays.to,
-        &r.arrays.counts,
-        costs,
-        starts,
-        processors,
-        scratch,
-    );
-    Planned::Plan { tasks, end }
-}
-
-// Plans a job, and measures the plan. The arrivals begin with 4,096 zeros.
-fn measure<'a>(
-    platform: Platform,
+// Lays the plan of an instance out in the slices, if there is room.
+fn lay_out<'a>(
+    n: usize,
     tasks: usize,
     edges: usize,
     durations: &'a [u32],
@@ -106,17 +92,19 @@ fn measure<'a>(
     costs: [[u32; 16]; 16],
     starts: &mut [u32],
     processors: &mut [u8],
-    arrivals: &mut [u32],
-) -> Covered
-    requires { ⌜ InArrays platform tasks edges (now durations) (now from) (now to) (now counts) costs ⌝ }
-    requires { ⌜ Room tasks (now starts) (now processors) (now arrivals) ⌝ }
-    ensures { λ r. ⌜ Measured (instance
-        (heldJob platform tasks edges (gathered (now (durations .entry)) (now (from .entry)) (now (to .entry)) (now (counts .entry)))))
-        tasks r (now (starts .entry)) (now (starts .exit))
-        (now (processors .entry)) (now (processors .exit)) (now (arrivals .entry)) (now (arrivals .exit)) ⌝ }
+    scratch: &mut [u32],
+) -> Laid
+    requires { ⌜ Plannable (byNumber n tasks edges (now durations) (now from) (now to) (now counts) costs) ⌝ }
+    ensures { λ r. ⌜ called r (now (starts .exit)) (now (processors .exit)) (now (scratch .exit)) ≡ layCall
+        (instanceIn (byNumber n tasks edges (now (durations .entry)) (now (from .entry)) (now (to .entry)) (now (counts .entry)) costs))
+        (now (starts .entry)) (now (processors .entry)) (now (scratch .entry)) ⌝ }
 {
-    planner::run(
-        platform,
+    if too_short(tasks, starts.len(), processors.len(), scratch.len()) {
+        return Laid::Short;
+    }
+    clear(scratch);
+    Laid::End(planner::run(
+        n,
         tasks,
         edges,
         durations,
@@ -126,40 +114,24 @@ fn measure<'a>(
         costs,
         starts,
         processors,
-        arrivals,
-    );
-    let cover = walk::cover(
-        platform,
-        tasks,
-        edges,
-        durations,
-        from,
-        to,
-        counts,
-        costs,
-        starts,
-        processors,
-    );
-    let dearest = chains::dearest(platform, tasks, edges, durations, from, to, counts, costs);
-    Covered::Cover { cover, dearest }
+        scratch,
+    ))
 }
 
-// Plans the job of a file, and measures the plan (01: the cover call).
-pub fn cover(file: &[u8], starts: &mut [u32], processors: &mut [u8], scratch: &mut [u32]) -> Covered
-    ensures { λ r. ⌜ covered r (now (starts .exit)) (now (processors .exit)) (now (scratch .exit)) ≡ coverCall (now (file .entry)) (now (starts .entry)) (now (processors .entry)) (now (scratch .entry)) ⌝ }
+// Plans the job of a file (01: the planner).
+pub fn plan(file: &[u8], starts: &mut [u32], processors: &mut [u8], scratch: &mut [u32]) -> Planned
+    ensures { λ r. ⌜ called r (now (starts .exit)) (now (processors .exit)) (now (scratch .exit)) ≡
+        planCall (now (file .entry)) (now (starts .entry)) (now (processors .entry)) (now (scratch .entry)) ⌝ }
 {
     let r = job::read(file);
     let verdict = r.verdict;
     let Verdict::Counts { tasks, edges } = verdict else {
-        return Covered::Refused(job::number(verdict));
+        return Planned::Refused(job::number(verdict));
     };
-    if too_short(tasks, starts.len(), processors.len(), scratch.len()) {
-        return Covered::Refused(9);
-    }
-    clear(scratch);
+    let n = base::index(r.platform.processors);
     let costs = costs::square(r.platform);
-    measure(
-        r.platform,
+    let laid = lay_out(
+        n,
         tasks,
         edges,
         &r.arrays.durations,
@@ -170,7 +142,88 @@ pub fn cover(file: &[u8], starts: &mut [u32], processors: &mut [u8], scratch: &m
         starts,
         processors,
         scratch,
-    )
+    );
+    let Laid::End(end) = laid else {
+        return Planned::Refused(9);
+    };
+    Planned::Plan(Outcome { tasks, end })
+}
+
+// Measures the planner's plan of an instance, which the slices hold.
+fn measure<'a>(
+    n: usize,
+    tasks: usize,
+    edges: usize,
+    durations: &'a [u32],
+    from: &'a [u8],
+    to: &'a [u8],
+    counts: &'a [u16],
+    costs: [[u32; 16]; 16],
+    starts: &[u32],
+    processors: &[u8],
+) -> Figures
+    requires { ⌜ Plannable (byNumber n tasks edges (now durations) (now from) (now to) (now counts) costs) ⌝ }
+    requires { ⌜ HoldsPlan (instanceIn (byNumber n tasks edges (now durations) (now from) (now to) (now counts) costs))
+        tasks (now starts) (now processors) ⌝ }
+    ensures { λ r. ⌜ r ≡ figures (instanceIn
+        (byNumber n tasks edges (now (durations .entry)) (now (from .entry)) (now (to .entry)) (now (counts .entry)) costs)) ⌝ }
+{
+    let cover = walk::cover(
+        n,
+        tasks,
+        edges,
+        durations,
+        from,
+        to,
+        counts,
+        costs,
+        starts,
+        processors,
+    );
+    let dearest = chains::dearest(n, tasks, edges, durations, from, to, counts, costs);
+    Figures { cover, dearest }
+}
+
+// Plans the job of a file, and measures the plan (01: the cover call).
+pub fn cover(file: &[u8], starts: &mut [u32], processors: &mut [u8], scratch: &mut [u32]) -> Covered
+    ensures { λ r. ⌜ called r (now (starts .exit)) (now (processors .exit)) (now (scratch .exit)) ≡
+        coverCall (now (file .entry)) (now (starts .entry)) (now (processors .entry)) (now (scratch .entry)) ⌝ }
+{
+    let r = job::read(file);
+    let verdict = r.verdict;
+    let Verdict::Counts { tasks, edges } = verdict else {
+        return Covered::Refused(job::number(verdict));
+    };
+    let n = base::index(r.platform.processors);
+    let costs = costs::square(r.platform);
+    let laid = lay_out(
+        n,
+        tasks,
+        edges,
+        &r.arrays.durations,
+        &r.arrays.from,
+        &r.arrays.to,
+        &r.arrays.counts,
+        costs,
+        starts,
+        processors,
+        scratch,
+    );
+    let Laid::End(_) = laid else {
+        return Covered::Refused(9);
+    };
+    Covered::Cover(measure(
+        n,
+        tasks,
+        edges,
+        &r.arrays.durations,
+        &r.arrays.from,
+        &r.arrays.to,
+        &r.arrays.counts,
+        costs,
+        starts,
+        processors,
+    ))
 }
 
 // Judges a plan for the job of a file (01: the checker).
@@ -188,9 +241,10 @@ pub fn check(file: &[u8], starts: &[u32], processors: &[u8]) -> Checked
     if processors.len() < tasks {
         return Checked::Refused(9);
     }
+    let n = base::index(r.platform.processors);
     let costs = costs::square(r.platform);
     let trouble = checker::trouble(
-        r.platform,
+        n,
         tasks,
         edges,
         &r.arrays.durations,

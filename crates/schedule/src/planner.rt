@@ -1,14 +1,13 @@
 // The planning rule (document 01, "The planning rule").
-use crate::graph;
-use job::Platform;
 ghost use mathlib.Core.Path.{_≡_};
 ghost use Prim.Native.Nat.{ℕ, _+_, _*_, _-_, _≤_, _<_};
 ghost use lib.ListN.{length, getD, set};
-ghost use Rattle.base.specs.Rows.{sum, one-if};
-ghost use Rattle.job.specs.Write.{heldJob, gathered};
-ghost use Rattle.etf.specs.OfJob.{instance};
-ghost use Rattle.schedule.specs.Pass.{Surveyed, Raised, Sent, Skipped, WrittenDown, Looked, Placed, placedMark, InArrays, Room, Ran};
-ghost use Rattle.schedule.specs.Pass.{firstBest, rowOf, noPair, searched, sentTo};
+ghost use Rattle.etf.specs.Bounds.{mostMessageTime, mostFinish};
+ghost use Rattle.schedule.specs.InArrays.{byNumber, instanceIn, Plannable};
+ghost use Rattle.schedule.specs.Call.{called, laidOut};
+ghost use Rattle.schedule.specs.Plan.{endOf};
+ghost use Rattle.schedule.specs.Pass.{Surveyed, Raised, ToSend, Sent, Skipped, Looked, ToPlace, Placed, placedMark, Room};
+ghost use Rattle.schedule.specs.Pass.{inbox, tables, firstBest, rowOf, noPair, searched};
 
 // A task, a processor and the start that the task would have there; 4294967295 where there is none.
 pub struct Pair {
@@ -100,9 +99,11 @@ fn choose(
     free: &[usize],
     count: usize,
 ) -> Pair
-    requires { ⌜ (clock < 4294967295) × (low ≤ tasks) × (tasks ≤ 256) × (length (now waiting) ≡ 256) × (length (now latest) ≡ 256) × (4096 ≤ length (now arrivals)) ⌝ }
+    requires { ⌜ (clock < 4294967295) × (low ≤ tasks) × (tasks ≤ 256) ⌝ }
+    requires { ⌜ (length (now waiting) ≡ 256) × (length (now latest) ≡ 256) × (4096 ≤ length (now arrivals)) ⌝ }
     requires { ⌜ (count ≤ length (now free)) × ((i : ℕ) → i < count → getD (now free) i 0 < 16) ⌝ }
-    ensures { λ r. ⌜ r ≡ searched clock (now (waiting .entry)) (now (latest .entry)) (rowOf clock (now (arrivals .entry)) (now (free .entry)) count) low (tasks - low) noPair ⌝ }
+    ensures { λ r. ⌜ r ≡ searched clock (now (waiting .entry)) (now (latest .entry)) (λ i. i)
+        (rowOf clock (now (arrivals .entry)) (now (free .entry)) count) low (tasks - low) noPair ⌝ }
 {
     let mut best = Pair {
         start: 4294967295,
@@ -140,7 +141,8 @@ fn look(
 ) -> Choice
     requires { ⌜ (n ≤ 16) × (clock < 4294967295) × (low ≤ tasks) × (tasks ≤ 256) ⌝ }
     requires { ⌜ (length (now busy) ≡ 16) × (length (now waiting) ≡ 256) × (length (now latest) ≡ 256) × (4096 ≤ length (now arrivals)) ⌝ }
-    ensures { λ r. ⌜ Looked clock low tasks n (now (busy .entry)) (now (waiting .entry)) (now (latest .entry)) (now (arrivals .entry)) r ⌝ }
+    ensures { λ r. ⌜ Looked clock low tasks n (λ i. i)
+        (inbox (now (arrivals .entry)) (now (waiting .entry)) (now (latest .entry))) (now (busy .entry)) r ⌝ }
 {
     let mut free = [0usize; 16];
     let moment = survey(busy, n, clock, &mut free);
@@ -163,7 +165,7 @@ fn look(
 // Raises the arrivals of a task by what one predecessor sends to it.
 fn raise(arrivals: &mut [u32], task: usize, n: usize, finish: u32, count: u32, row: &[u32])
     requires { ⌜ (task < 256) × (n ≤ 16) × (4096 ≤ length (now arrivals)) × (length (now row) ≡ 16) ⌝ }
-    requires { ⌜ (finish ≤ 460000000) × (count ≤ 1000) × ((P : ℕ) → getD (now row) P 0 ≤ 800) ⌝ }
+    requires { ⌜ (finish ≤ mostFinish) × ((P : ℕ) → count * getD (now row) P 0 ≤ mostMessageTime) ⌝ }
     ensures { λ _. ⌜ Raised n task finish count (now (row .entry)) (now (arrivals .entry)) (now (arrivals .exit)) ⌝ }
 {
     let mut p: usize = 0;
@@ -189,11 +191,10 @@ fn send(
     waiting: &mut [u16],
     latest: &mut [u32],
 )
-    requires { ⌜ (first ≤ last) × (last ≤ length (now to)) × (last ≤ length (now counts)) × (n ≤ 16) × (finish ≤ 460000000) ⌝ }
-    requires { ⌜ (4096 ≤ length (now arrivals)) × (length (now waiting) ≡ 256) × (length (now latest) ≡ 256) × (length (now row) ≡ 16) ⌝ }
-    requires { ⌜ ((P : ℕ) → getD (now row) P 0 ≤ 800) × ((k : ℕ) → k < last → getD (now counts) k 0 ≤ 1000) ⌝ }
-    requires { ⌜ ((T : ℕ) → sum last (λ k. one-if (sentTo (now to) first T k)) ≤ getD (now waiting) T 0) ⌝ }
-    ensures { λ _. ⌜ Sent first last finish n (now (row .entry)) (now (to .entry)) (now (counts .entry)) (now (arrivals .entry)) (now (arrivals .exit)) (now (waiting .entry)) (now (waiting .exit)) (now (latest .entry)) (now (latest .exit)) ⌝ }
+    requires { ⌜ ToSend first last finish n (now row) (now to) (now counts) (inbox (now arrivals) (now waiting) (now latest)) ⌝ }
+    ensures { λ _. ⌜ Sent first last finish n (now (row .entry)) (now (to .entry)) (now (counts .entry))
+        (inbox (now (arrivals .entry)) (now (waiting .entry)) (now (latest .entry)))
+        (inbox (now (arrivals .exit)) (now (waiting .exit)) (now (latest .exit))) ⌝ }
 {
     let mut k = first;
     while k < last {
@@ -210,7 +211,7 @@ fn send(
 // The first task from `low` on that is not placed; 65535 in place of a waiting count marks a placed one.
 fn skip(waiting: &[u16], low: usize, tasks: usize) -> usize
     requires { ⌜ (low ≤ tasks) × (tasks ≤ length (now waiting)) ⌝ }
-    ensures { λ r. ⌜ Skipped (now (waiting .entry)) low tasks r ⌝ }
+    ensures { λ r. ⌜ Skipped (now (waiting .entry)) (λ i. i) low tasks r ⌝ }
 {
     let mut t = low;
     while t < tasks {
@@ -233,12 +234,12 @@ fn put(
     busy: &mut [u32],
     waiting: &mut [u16],
 )
-    requires { ⌜ (task < length (now starts)) × (task < length (now processors)) × (processor < length (now busy)) × (task < length (now waiting)) × (processor < 16) ⌝ }
-    ensures { λ _. ⌜ WrittenDown task processor start finish
-        (now (starts .entry)) (now (starts .exit))
-        (now (processors .entry)) (now (processors .exit))
-        (now (busy .entry)) (now (busy .exit))
-        (now (waiting .entry)) (now (waiting .exit)) ⌝ }
+    requires { ⌜ (task < length (now starts)) × (task < length (now processors)) × (task < length (now waiting)) ⌝ }
+    requires { ⌜ (processor < length (now busy)) × (processor < 16) ⌝ }
+    ensures { λ _. ⌜ now (starts .exit) ≡ set (now (starts .entry)) task start ⌝ }
+    ensures { λ _. ⌜ now (processors .exit) ≡ set (now (processors .entry)) task processor ⌝ }
+    ensures { λ _. ⌜ now (busy .exit) ≡ set (now (busy .entry)) processor finish ⌝ }
+    ensures { λ _. ⌜ now (waiting .exit) ≡ set (now (waiting .entry)) task placedMark ⌝ }
 {
     starts[task] = start;
     processors[task] = processor as u8;
@@ -265,12 +266,13 @@ fn place(
     latest: &mut [u32],
     busy: &mut [u32],
 ) -> usize
-    requires { ⌜ (pair .task < length (now starts)) × (pair .task < length (now processors)) × (pair .task < 256) × (pair .processor < 16) × (low ≤ tasks) × (tasks ≤ 256) ⌝ }
-    requires { ⌜ (first ≤ last) × (last ≤ length (now to)) × (last ≤ length (now counts)) × (n ≤ 16) × (finish ≤ 460000000) ⌝ }
-    requires { ⌜ (4096 ≤ length (now arrivals)) × (length (now waiting) ≡ 256) × (length (now latest) ≡ 256) × (length (now busy) ≡ 16) × (length (now row) ≡ 16) ⌝ }
-    requires { ⌜ ((P : ℕ) → getD (now row) P 0 ≤ 800) × ((k : ℕ) → k < last → getD (now counts) k 0 ≤ 1000) ⌝ }
-    requires { ⌜ ((T : ℕ) → sum last (λ k. one-if (sentTo (now to) first T k)) ≤ getD (set (now waiting) (pair .task) placedMark) T 0) ⌝ }
-    ensures { λ r. ⌜ Placed pair finish first last low tasks n (now (row .entry)) (now (to .entry)) (now (counts .entry)) (now (starts .entry)) (now (starts .exit)) (now (processors .entry)) (now (processors .exit)) (now (arrivals .entry)) (now (arrivals .exit)) (now (waiting .entry)) (now (waiting .exit)) (now (latest .entry)) (now (latest .exit)) (now (busy .entry)) (now (busy .exit)) r ⌝ }
+    requires { ⌜ ToPlace pair finish first last low tasks n (now row) (now to) (now counts)
+        (tables (now starts) (now processors) (now busy) (inbox (now arrivals) (now waiting) (now latest))) ⌝ }
+    ensures { λ r. ⌜ Placed pair finish first last low tasks n (λ i. i) (now (row .entry)) (now (to .entry)) (now (counts .entry))
+        (tables (now (starts .entry)) (now (processors .entry)) (now (busy .entry))
+        (inbox (now (arrivals .entry)) (now (waiting .entry)) (now (latest .entry))))
+        (tables (now (starts .exit)) (now (processors .exit)) (now (busy .exit))
+        (inbox (now (arrivals .exit)) (now (waiting .exit)) (now (latest .exit)))) r ⌝ }
 {
     let t = pair.task;
     let p = pair.processor;
@@ -290,9 +292,9 @@ fn place(
     skip(waiting, low, tasks)
 }
 
-// Plans a job, and returns the end. The arrivals begin with 4,096 zeros.
+// Plans an instance, and returns the end. The arrivals begin with 4,096 zeros.
 pub fn run<'a>(
-    platform: Platform,
+    n: usize,
     tasks: usize,
     edges: usize,
     durations: &'a [u32],
@@ -304,16 +306,14 @@ pub fn run<'a>(
     processors: &mut [u8],
     arrivals: &mut [u32],
 ) -> u32
-    requires { ⌜ InArrays platform tasks edges (now durations) (now from) (now to) (now counts) costs ⌝ }
+    requires { ⌜ Plannable (byNumber n tasks edges (now durations) (now from) (now to) (now counts) costs) ⌝ }
     requires { ⌜ Room tasks (now starts) (now processors) (now arrivals) ⌝ }
-    ensures { λ r. ⌜ Ran (instance
-        (heldJob platform tasks edges (gathered (now (durations .entry)) (now (from .entry)) (now (to .entry)) (now (counts .entry)))))
-        tasks r (now (starts .entry)) (now (starts .exit))
-        (now (processors .entry)) (now (processors .exit)) (now (arrivals .entry)) (now (arrivals .exit)) ⌝ }
+    ensures { λ r. ⌜ called r (now (starts .exit)) (now (processors .exit)) (now (arrivals .exit)) ≡ laidOut endOf
+        (instanceIn (byNumber n tasks edges (now (durations .entry)) (now (from .entry)) (now (to .entry)) (now (counts .entry)) costs))
+        (now (starts .entry)) (now (processors .entry)) (now (arrivals .entry)) ⌝ }
 {
-    let n = base::index(platform.processors);
-    let runs = graph::runs(from, tasks, edges);
-    let mut waiting = graph::predecessors(to, edges);
+    let runs = graph::runs(from, edges);
+    let mut waiting = graph::counts(to, edges);
     let mut latest = [0u32; 256];
     let mut busy = [0u32; 16];
     let mut clock: u32 = 0;

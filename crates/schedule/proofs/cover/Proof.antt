@@ -1,9 +1,32 @@
--- `cover` passes the reader's number on, refuses by 9 for a slice that is too short, and else leaves what `measure` leaves over a cleared scratch.
-use Rattle.schedule.specs.Laws.Reading.{read-as, platform-fits, in-arrays}
-use Rattle.schedule.specs.Laws.Entries.{long-enough, cleared-room, cover-passes-on, cover-short, cover-done}
+-- `cover` passes the reader's number on, refuses by 9 where `lay_out` finds a slice too short, and else measures what it laid out.
 use borrow.Author.Needs.{needs}
+use Rattle.etf.specs.Instance.{Instance}
+use Rattle.schedule.specs.declared.Covered.{Covered}
+use Rattle.schedule.specs.declared.Covered.the-variants.{Cover, Refused}
+use Rattle.schedule.specs.Call.{arrivalPlaces, laidOut}
+use Rattle.schedule.specs.Cover.{figures, coverCall}
+use Rattle.schedule.specs.Laws.Reading.{read-as, wired, instance-held, plannable}
+use Rattle.schedule.specs.Laws.Calls.{passes-on, call-short, call-end, laid-holds, measured-right}
 use Rattle.schedule.proofs.cover.Statement.{statement}
 use Rattle.schedule.proofs.cover.Tie as tie
+
+-- the answer to an accepted job
+abbrev answer : Instance → Covered
+answer I = Cover (figures I)
+
+-- ---- the places
+
+abbrev verdict-of : tie.After-square → tie.After-verdict
+verdict-of s = s .before .before .before .before
+
+abbrev square-of : tie.After-lay-out → tie.After-square
+square-of l = l .before .before .before .before .before .before .before .before .before .before .before .before .before
+
+abbrev lay-out-of : tie.After-enum-told2 → tie.After-lay-out
+lay-out-of e = e .before .before .before .before .before .before .before .before
+
+abbrev end-of : tie.After-measure → tie.After-enum-told2
+end-of c = c .before .before .before .before .before .before .before .before .before .before .before .before
 
 read-requires : tie.Need-read-requires
 read-requires c κs = search needs
@@ -18,38 +41,31 @@ number-requires : tie.Need-number-requires
 number-requires c κs = search needs
 
 returns : tie.Need-returns
-returns c = cover-passes-on _ (c .before .before .before .read .ensures) (c .before .enum-told .given .1) (c .number .ensures) _ _ _
+unfolding coverCall
+returns c =
+    passes-on _ (c .before .before .before .read .ensures) (c .before .enum-told .given .1) (c .number .ensures)
+    arrivalPlaces Refused (laidOut answer) _ _ _
 
-too-short-requires : tie.Need-too-short-requires
-too-short-requires c κs = search needs
-
-returns-2 : tie.Need-returns-2
-returns-2 c =
-    let at-short = c .before in
-    let at-verdict = at-short .before .before in
-    let read = read-as (at-verdict .before .before .read .ensures) (at-verdict .verdict .given .1) in
-    cover-short read (at-short .too-short .ensures) (c .if1 .taken)
-
-clear-requires : tie.Need-clear-requires
-clear-requires c κs =
-    let at-if1 = c .before in
-    long-enough (at-if1 .before .too-short .ensures) (at-if1 .if1 .left) .2
+index-requires : tie.Need-index-requires
+index-requires c κs = search needs
 
 square-requires : tie.Need-square-requires
 square-requires c κs =
-    let at-verdict = c .before .before .before .before .before .before .before .before in
-    let read = read-as (at-verdict .before .before .read .ensures) (at-verdict .verdict .given .1) in
-    platform-fits read
+    let v = c .before .before .before in
+    wired (read-as (v .before .before .read .ensures) (v .verdict .given .1))
 
-measure-requires : tie.Need-measure-requires
-measure-requires c κs =
-    let at-square = c .before .before .before .before .before .before .before .before .before .before .before .before .before in
-    let at-clear = at-square .before .before .before .before in
-    let at-if1 = at-clear .before .before in
-    let at-short = at-if1 .before in
-    let at-verdict = at-short .before .before in
-    let read = read-as (at-verdict .before .before .read .ensures) (at-verdict .verdict .given .1) in
-    (in-arrays read (at-square .square .ensures), cleared-room _ (long-enough (at-short .too-short .ensures) (at-if1 .if1 .left)) (at-clear .clear .ensures))
+lay-out-requires : tie.Need-lay-out-requires
+lay-out-requires c κs =
+    let s = c .before .before .before .before .before .before .before .before .before .before .before .before in
+    let v = verdict-of s in
+    let read = read-as (v .before .before .read .ensures) (v .verdict .given .1) in
+    plannable read (s .before .before .index .ensures .0) (s .square .ensures)
+
+enum-told-2 : tie.Need-enum-told-2
+enum-told-2 c = search needs
+
+enum-told-3 : tie.Need-enum-told-3
+enum-told-3 c = search needs
 
 same-length : tie.Need-same-length
 same-length c = search needs
@@ -60,16 +76,46 @@ same-length-2 c = search needs
 same-length-3 : tie.Need-same-length-3
 same-length-3 c = search needs
 
+returns-2 : tie.Need-returns-2
+unfolding coverCall
+returns-2 c =
+    let l = c .before .before .before .before .before .before .before .before in
+    let s = square-of l in
+    let v = verdict-of s in
+    let read = read-as (v .before .before .read .ensures) (v .verdict .given .1) in
+    let same = instance-held read (s .before .before .index .ensures .0) (s .square .ensures) in
+    call-short read same Refused answer _ _ _ (c .enum-told3 .given .1) (l .lay-out .ensures)
+
+measure-requires : tie.Need-measure-requires
+measure-requires c κs =
+    let e = c .before .before .before .before .before .before .before .before .before .before .before in
+    let l = lay-out-of e in
+    let s = square-of l in
+    let v = verdict-of s in
+    let read = read-as (v .before .before .read .ensures) (v .verdict .given .1) in
+    let given = plannable read (s .before .before .index .ensures .0) (s .square .ensures) in
+    (given, laid-holds given _ _ _ (e .enum-told2 .given .1) (l .lay-out .ensures))
+
+same-length-4 : tie.Need-same-length-4
+same-length-4 c = search needs
+
+same-length-5 : tie.Need-same-length-5
+same-length-5 c = search needs
+
+same-length-6 : tie.Need-same-length-6
+same-length-6 c = search needs
+
 returns-3 : tie.Need-returns-3
+unfolding coverCall
 returns-3 c =
-    let at-measure = c .before .before .before .before .before .before in
-    let at-square = at-measure .before .before .before .before .before .before .before .before .before .before .before .before .before .before in
-    let at-clear = at-square .before .before .before .before in
-    let at-if1 = at-clear .before .before in
-    let at-short = at-if1 .before in
-    let at-verdict = at-short .before .before in
-    let read = read-as (at-verdict .before .before .read .ensures) (at-verdict .verdict .given .1) in
-    cover-done read _ (at-short .too-short .ensures) (at-if1 .if1 .left) (at-clear .clear .ensures) (at-measure .measure .ensures)
+    let e = end-of c in
+    let l = lay-out-of e in
+    let s = square-of l in
+    let v = verdict-of s in
+    let read = read-as (v .before .before .read .ensures) (v .verdict .given .1) in
+    let same = instance-held read (s .before .before .index .ensures .0) (s .square .ensures) in
+    call-end read same Refused answer _ _ _ (e .enum-told2 .given .1) (l .lay-out .ensures)
+    (λ e-is. measured-right same (c .measure .ensures))
 
 pub cover-spec : {M : Type 1} → statement M
 cover-spec =
@@ -80,12 +126,17 @@ cover-spec =
     enum-told
     number-requires
     returns
-    too-short-requires
-    returns-2
-    clear-requires
+    index-requires
     square-requires
-    measure-requires
+    lay-out-requires
+    enum-told-2
+    enum-told-3
     same-length
     same-length-2
     same-length-3
+    returns-2
+    measure-requires
+    same-length-4
+    same-length-5
+    same-length-6
     returns-3)

@@ -1,9 +1,26 @@
--- `plan` passes the reader's number on, refuses by 9 for a slice that is too short, and else leaves what `planner::run` leaves over a cleared scratch.
-use Rattle.schedule.specs.Laws.Reading.{read-as, platform-fits, in-arrays}
-use Rattle.schedule.specs.Laws.Entries.{long-enough, cleared-room, plan-passes-on, plan-short, plan-done}
+-- `plan` passes the reader's number on, refuses by 9 where `lay_out` finds a slice too short, and else answers with the end that it gives.
 use borrow.Author.Needs.{needs}
+use Rattle.etf.specs.Instance.{Instance}
+use Rattle.schedule.specs.declared.Planned.{Planned}
+use Rattle.schedule.specs.declared.Planned.the-variants.{Plan, Refused}
+use Rattle.schedule.specs.Call.{arrivalPlaces, laidOut}
+use Rattle.schedule.specs.Plan.{outcome, planCall}
+use Rattle.schedule.specs.Laws.Reading.{read-as, wired, instance-held, plannable}
+use Rattle.schedule.specs.Laws.Calls.{passes-on, call-short, call-end, planned-right}
 use Rattle.schedule.proofs.plan.Statement.{statement}
 use Rattle.schedule.proofs.plan.Tie as tie
+
+-- the answer to an accepted job
+abbrev answer : Instance → Planned
+answer I = Plan (outcome I)
+
+-- ---- the places
+
+abbrev verdict-of : tie.After-square → tie.After-verdict
+verdict-of s = s .before .before .before .before
+
+abbrev square-of : tie.After-lay-out → tie.After-square
+square-of l = l .before .before .before .before .before .before .before .before .before .before .before .before .before
 
 read-requires : tie.Need-read-requires
 read-requires c κs = search needs
@@ -18,38 +35,31 @@ number-requires : tie.Need-number-requires
 number-requires c κs = search needs
 
 returns : tie.Need-returns
-returns c = plan-passes-on _ (c .before .before .before .read .ensures) (c .before .enum-told .given .1) (c .number .ensures) _ _ _
+unfolding planCall
+returns c =
+    passes-on _ (c .before .before .before .read .ensures) (c .before .enum-told .given .1) (c .number .ensures)
+    arrivalPlaces Refused (laidOut answer) _ _ _
 
-too-short-requires : tie.Need-too-short-requires
-too-short-requires c κs = search needs
-
-returns-2 : tie.Need-returns-2
-returns-2 c =
-    let at-short = c .before in
-    let at-verdict = at-short .before .before in
-    let read = read-as (at-verdict .before .before .read .ensures) (at-verdict .verdict .given .1) in
-    plan-short read (at-short .too-short .ensures) (c .if1 .taken)
-
-clear-requires : tie.Need-clear-requires
-clear-requires c κs =
-    let at-if1 = c .before in
-    long-enough (at-if1 .before .too-short .ensures) (at-if1 .if1 .left) .2
+index-requires : tie.Need-index-requires
+index-requires c κs = search needs
 
 square-requires : tie.Need-square-requires
 square-requires c κs =
-    let at-verdict = c .before .before .before .before .before .before .before .before in
-    let read = read-as (at-verdict .before .before .read .ensures) (at-verdict .verdict .given .1) in
-    platform-fits read
+    let v = c .before .before .before in
+    wired (read-as (v .before .before .read .ensures) (v .verdict .given .1))
 
-run-requires : tie.Need-run-requires
-run-requires c κs =
-    let at-square = c .before .before .before .before .before .before .before .before .before .before .before .before .before in
-    let at-clear = at-square .before .before .before .before in
-    let at-if1 = at-clear .before .before in
-    let at-short = at-if1 .before in
-    let at-verdict = at-short .before .before in
-    let read = read-as (at-verdict .before .before .read .ensures) (at-verdict .verdict .given .1) in
-    (in-arrays read (at-square .square .ensures), cleared-room _ (long-enough (at-short .too-short .ensures) (at-if1 .if1 .left)) (at-clear .clear .ensures))
+lay-out-requires : tie.Need-lay-out-requires
+lay-out-requires c κs =
+    let s = c .before .before .before .before .before .before .before .before .before .before .before .before in
+    let v = verdict-of s in
+    let read = read-as (v .before .before .read .ensures) (v .verdict .given .1) in
+    plannable read (s .before .before .index .ensures .0) (s .square .ensures)
+
+enum-known-laid : tie.Need-enum-known-laid
+enum-known-laid c = search needs
+
+enum-told-2 : tie.Need-enum-told-2
+enum-told-2 c = search needs
 
 same-length : tie.Need-same-length
 same-length c = search needs
@@ -60,16 +70,35 @@ same-length-2 c = search needs
 same-length-3 : tie.Need-same-length-3
 same-length-3 c = search needs
 
+returns-2 : tie.Need-returns-2
+unfolding planCall
+returns-2 c =
+    let l = c .before .before .before .before .before .before .before .before in
+    let s = square-of l in
+    let v = verdict-of s in
+    let read = read-as (v .before .before .read .ensures) (v .verdict .given .1) in
+    let same = instance-held read (s .before .before .index .ensures .0) (s .square .ensures) in
+    call-short read same Refused answer _ _ _ (c .enum-told2 .given .1) (l .lay-out .ensures)
+
+same-length-4 : tie.Need-same-length-4
+same-length-4 c = search needs
+
+same-length-5 : tie.Need-same-length-5
+same-length-5 c = search needs
+
+same-length-6 : tie.Need-same-length-6
+same-length-6 c = search needs
+
 returns-3 : tie.Need-returns-3
+unfolding planCall
 returns-3 c =
-    let at-run = c .before .before .before .before .before .before in
-    let at-square = at-run .before .before .before .before .before .before .before .before .before .before .before .before .before .before in
-    let at-clear = at-square .before .before .before .before in
-    let at-if1 = at-clear .before .before in
-    let at-short = at-if1 .before in
-    let at-verdict = at-short .before .before in
-    let read = read-as (at-verdict .before .before .read .ensures) (at-verdict .verdict .given .1) in
-    plan-done read _ (at-short .too-short .ensures) (at-if1 .if1 .left) (at-clear .clear .ensures) (at-run .run .ensures)
+    let at-laid = c .before in
+    let l = at-laid .before .before .before .before .before .before .before .before in
+    let s = square-of l in
+    let v = verdict-of s in
+    let read = read-as (v .before .before .read .ensures) (v .verdict .given .1) in
+    let same = instance-held read (s .before .before .index .ensures .0) (s .square .ensures) in
+    call-end read same Refused answer _ _ _ (at-laid .laid .given .1) (l .lay-out .ensures) (planned-right read)
 
 pub plan-spec : {M : Type 1} → statement M
 plan-spec =
@@ -80,12 +109,16 @@ plan-spec =
     enum-told
     number-requires
     returns
-    too-short-requires
-    returns-2
-    clear-requires
+    index-requires
     square-requires
-    run-requires
+    lay-out-requires
+    enum-known-laid
+    enum-told-2
     same-length
     same-length-2
     same-length-3
+    returns-2
+    same-length-4
+    same-length-5
+    same-length-6
     returns-3)

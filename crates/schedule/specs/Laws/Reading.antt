@@ -1,17 +1,28 @@
--- What the planner and the checker learn from the reader's contract: a verdict with counts comes with an accepted job, which the arrays hold.
-use mathlib.Core.Path.{_≡_, ap, sym, subst, _∙_}
+-- What an entry learns from the reader's contract: a verdict with counts comes with an accepted job, and the arrays hold its instance.
+use mathlib.Core.Path.{_≡_, refl, ap, sym, subst, _∙_}
 use mathlib.Core.List.{List}
-use Prim.Native.Nat.{ℕ, _≤_}
-use lib.ListN.{length}
+use Prim.Native.Nat.{ℕ, suc, _≤_, _<_}
+use native.Mathlib.Nat.{mul-le-mul}
+use native.Mathlib.Omega.{arith}
+use lib.ListN.{length, getD}
+use Rattle.base.specs.Lists.{values, upto}
+use Rattle.base.specs.Laws.Values.{length-values, value-at, upto-values}
 use Rattle.job.specs.declared.Verdict.the-variants.{Counts}
 use Rattle.job.specs.declared.Reading.{Reading}
-use Rattle.job.specs.Job.{Job}
+use Rattle.job.specs.Limits.{mostDuration, mostCount}
+use Rattle.job.specs.Job.{Edge, Job}
 use Rattle.job.specs.Read.{accepted, readJob, readingOf}
-use Rattle.job.specs.Write.{heldJob}
-use Rattle.job.specs.Accepted.{Accepted, accepted-job, counted, laid-out}
+use Rattle.job.specs.Write.{edgeHeld, heldJob}
+use Rattle.job.specs.Accepted.{Accepted, Before, edgeAt, accepted-job, counted, laid-out}
 use Rattle.job.specs.RoundTrip.{read-held}
-use Rattle.etf.specs.Topology.{cost, square}
-use Rattle.schedule.specs.Pass.{InArrays}
+use Rattle.etf.specs.Instance.{Instance}
+use Rattle.etf.specs.Topology.{cost, square, entry}
+use Rattle.etf.specs.OfJob.{costsOf, instance}
+use Rattle.etf.specs.Bounds.{mostCost}
+use Rattle.etf.specs.Laws.Costs.{row-length}
+use Rattle.etf.specs.Laws.OfJob.{entry-most}
+use Rattle.schedule.specs.InArrays.{InArrays, byNumber, instanceIn, Ordering, Plannable}
+use Rattle.schedule.specs.Pass.{Wired}
 
 -- an accepted file: the job, held in the arrays of its reading x
 pub record Read (file : List ℕ) (x : Reading) (m l : ℕ) : Type 0 where
@@ -48,22 +59,101 @@ read-as {file} {x} {m} {l} e v =
       counts-size = ap (λ (y : Reading). length (y .arrays .counts)) r ∙ s .counts-length;
     }
 
+-- the tasks by number are an order of them
+by-number : (m : ℕ) → Ordering m (λ i. i)
+by-number m = record { within = λ i h. h; each = λ T h. (T, h, refl) }
+
 module _ {file : List ℕ} {x : Reading} {m l : ℕ} (K : Read file x m l) where
-  held-sound : Accepted (heldJob (x .platform) m l (x .arrays))
+  -- the job as it is held
+  abbrev J : Job
+  J = heldJob (x .platform) m l (x .arrays)
+
+  held-sound : Accepted J
   held-sound = subst Accepted (sym (K .held)) (K .sound)
 
   -- what the costs are made from
-  pub platform-fits : (x .platform .processors ≤ 16) × (x .platform .topology ≤ 2) × (x .platform .unit ≤ 100)
+  pub wired : Wired (x .platform)
   unfolding heldJob
-  platform-fits = (held-sound .few-processors, held-sound .known-topology, held-sound .small-unit)
-
-  pub in-arrays : {costs : List (List ℕ)} → costs ≡ square (x .platform .processors) (cost (x .platform))
-      → InArrays (x .platform) m l (x .arrays .durations) (x .arrays .from) (x .arrays .to) (x .arrays .counts) costs
-  in-arrays e = record {
-    accepted = held-sound;
-    durations-size = K .durations-size;
-    from-size = K .from-size;
-    to-size = K .to-size;
-    counts-size = K .counts-size;
-    costs-are = e;
+  wired = record {
+    few-processors = held-sound .few-processors;
+    known-topology = held-sound .known-topology;
+    small-unit = held-sound .small-unit;
   }
+
+  -- ---- the tasks and edges of the job, by place in the arrays
+
+  abbrev held : ℕ → Edge
+  held = edgeHeld (x .arrays .from) (x .arrays .to) (x .arrays .counts)
+
+  tasks-held : length (J .tasks) ≡ m
+  unfolding heldJob
+  tasks-held = length-values (λ t. getD (x .arrays .durations) t 0) 0 m
+
+  edges-held : length (J .edges) ≡ l
+  unfolding heldJob
+  edges-held = length-values held 0 l
+
+  each-task : (P : ℕ → Type 0) → ((t : ℕ) → t < length (J .tasks) → P (getD (J .tasks) t 0))
+      → (t : ℕ) → t < m → P (getD (x .arrays .durations) t 0)
+  unfolding heldJob
+  each-task P f t h = subst P (value-at (λ t. getD (x .arrays .durations) t 0) 0 m t h) (f t (omega (arith, tasks-held)))
+
+  edge-is : (k : ℕ) → k < l → edgeAt J k ≡ held k
+  unfolding heldJob
+  edge-is k h = value-at held _ l k h
+
+  each-edge : (P : Edge → Type 0) → ((k : ℕ) → k < length (J .edges) → P (edgeAt J k)) → (k : ℕ) → k < l → P (held k)
+  each-edge P f k h = subst P (edge-is k h) (f k (omega (arith, edges-held)))
+
+  module _ {n : ℕ} (n-is : n ≡ x .platform .processors)
+      {costs : List (List ℕ)} (costs-are : costs ≡ square (x .platform .processors) (cost (x .platform))) where
+    abbrev A : InArrays
+    A = byNumber n m l (x .arrays .durations) (x .arrays .from) (x .arrays .to) (x .arrays .counts) costs
+
+    -- the arrays hold the instance of the job
+    pub instance-held : instanceIn A ≡ instance (K .job)
+    unfolding instanceIn instance costsOf heldJob
+    instance-held = rw (n-is, costs-are) (ap with-order in-order) ∙ ap instance (K .held)
+      where
+        in-order : values (λ i. i) 0 m ≡ upto (length (J .tasks))
+        in-order = sym (upto-values m) ∙ ap upto (sym tasks-held)
+
+        with-order : List ℕ → Instance
+        with-order order = record {
+          processors = J .platform .processors;
+          durations = J .tasks;
+          edges = J .edges;
+          cost = entry (costsOf J);
+          order = order;
+        }
+
+    costs-of : costs ≡ costsOf J
+    unfolding costsOf heldJob
+    costs-of = costs-are
+
+    -- and all that is asked of them
+    pub plannable : Plannable A
+    unfolding edgeHeld heldJob
+    plannable = record {
+      some-processor = rw n-is (held-sound .some-processor);
+      few-processors = rw n-is (held-sound .few-processors);
+      some-task = omega (arith, held-sound .some-task, tasks-held);
+      few-tasks = omega (arith, held-sound .few-tasks, tasks-held);
+      few-edges = omega (arith, held-sound .few-edges, edges-held);
+      takes-time = each-task (λ d. 1 ≤ d) (held-sound .long-enough);
+      short = each-task (λ d. d ≤ mostDuration) (held-sound .short-enough);
+      forward = each-edge (λ e. e .from < e .to) (held-sound .forward);
+      within = λ k h. omega (arith, each-edge (λ e. e .to < length (J .tasks)) (held-sound .within) k h, tasks-held);
+      rising = λ k h.
+          subst (λ (e : Edge). Before (held k) e) (edge-is (suc k) h)
+          (subst (λ (e : Edge). Before e (edgeAt J (suc k))) (edge-is k (omega arith)) (held-sound .rising k (omega (arith, edges-held))));
+      near = λ k p q h.
+          let cheap : entry costs p q ≤ mostCost = rw costs-of (entry-most J held-sound p q) in
+          mul-le-mul (each-edge (λ e. e .count ≤ mostCount) (held-sound .few-messages) k h) cheap;
+      ordered = by-number m;
+      durations-size = K .durations-size;
+      from-size = K .from-size;
+      to-size = K .to-size;
+      counts-size = K .counts-size;
+      row-size = λ p h. rw costs-are (row-length (x .platform .processors) (cost (x .platform)) p h);
+    }

@@ -1,19 +1,18 @@
 -- `chains::greatest_cost`: before row p the greatest is that of the rows below p; each turn adds one row.
 use mathlib.Core.Path.{_≡_, sym, ap, _∙_}
 use mathlib.Core.Logic.{⊎-elim}
-use mathlib.Core.List.{[]}
 use Prim.Native.Nat.{ℕ, _-_, _≤_}
 use native.Mathlib.Omega.{arith}
 use borrow.Author.Needs.{needs}
-use lib.ListN.{getD}
 use Rattle.base.specs.Rows.{most}
 use Rattle.base.specs.Laws.Most.{none-yet, one-place}
+use Rattle.etf.specs.Topology.{entry}
 use Rattle.schedule.specs.CoverPass.{greatestIn}
 use Rattle.schedule.proofs.chains.greatest_cost.Statement.{statement}
 use Rattle.schedule.proofs.chains.greatest_cost.Tie as tie
 
 abbrev Inv-loop : tie.InvT-loop
-Inv-loop n costs most₀ p₀ top p = (p ≤ n) × (n ≤ 16) × (top ≡ most p (λ i. most n (λ q. getD (getD costs i []) q 0)))
+Inv-loop n costs most₀ p₀ top p = (p ≤ n) × (n ≤ 16) × (top ≡ most p (λ i. most n (λ q. entry costs i q)))
 
 abbrev μ-loop : tie.MeasureT-loop
 μ-loop n costs most₀ p₀ top p = n - p
@@ -58,8 +57,9 @@ loop-again c =
 returns : tie.Need-returns Inv-loop μ-loop
 unfolding greatestIn
 returns c =
-    let e : c .before .loop .p ≡ c .before .before .args .n = omega arith in
-    c .before .loop .inv .2 ∙ ap (λ (k : ℕ). most k (λ i. most (c .before .before .args .n) (λ q. getD (getD (c .before .before .args .t1) i []) q 0))) e
+    let args = c .before .before .args in
+    let e : c .before .loop .p ≡ args .n = omega arith in
+    c .before .loop .inv .2 ∙ ap (λ (k : ℕ). most k (λ i. most (args .n) (λ q. entry (args .t1) i q))) e
 
 pub greatest-cost-spec : {M : Type 1} → statement M
 greatest-cost-spec =

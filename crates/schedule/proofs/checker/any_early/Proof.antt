@@ -1,57 +1,109 @@
 -- `checker::any_early`: the edges that are left have a start too early exactly if all have, as long as none was met.
 use mathlib.Core.Path.{_≡_, sym, _∙_}
 use mathlib.Core.Bool.{Bool, true}
-use mathlib.Core.List.{List, []}
+use mathlib.Core.List.{List}
 use Prim.Native.Nat.{ℕ, _+_, _*_, _-_, _≤_, _<_}
 use native.Mathlib.Omega.{arith}
 use borrow.Author.Needs.{needs}
 use borrow.Author.Tests.{lt-ltb, le-ltb}
 use lib.Dec.{ltb}
 use lib.ListN.{getD}
-use Rattle.schedule.specs.Pass.{Judgeable, someIn, earlyAt}
-use Rattle.schedule.specs.Laws.Rows.{all-left, none-left, met, passed}
-use Rattle.schedule.specs.Laws.Given.{message-most}
+use Rattle.job.specs.Limits.{mostDuration}
+use Rattle.etf.specs.Topology.{entry}
+use Rattle.etf.specs.Bounds.{mostMessageTime}
+use Rattle.etf.specs.Checker.{latestStart}
+use Rattle.schedule.specs.Pass.{Joined, someIn, earlyAt}
+use Rattle.schedule.specs.Laws.Rows.SomeIn.{all-left, none-left, met, passed}
 use Rattle.schedule.proofs.checker.any_early.Statement.{statement}
 use Rattle.schedule.proofs.checker.any_early.Tie as tie
 
--- an edge's end, read as s, is a task: its places are there, and its start, duration and processor are small
-within : (s x m n : ℕ) → s ≡ x → x < m → m ≤ n → s < n
-within s x m n e h k = omega arith
+-- an edge's end, read as s, has its place
+there : {s x n : ℕ} → s ≡ x → x < n → s < n
+there e h = omega arith
 
-near : (processors : List ℕ) (m : ℕ) → ((T : ℕ) → T < m → getD processors T 0 < 16) → (s x p : ℕ) → s ≡ x → x < m
-    → p ≡ getD processors s 0 → p < 16
-near processors m f s x p e h d = rw d (f s (omega arith))
+-- what the loop reads of edge k: its tasks s and t, and their processors p and q
+record Read (from to processors : List ℕ) (k s t p q : ℕ) : Type 0 where
+  s-is : s ≡ getD from k 0
+  t-is : t ≡ getD to k 0
+  p-is : p ≡ getD processors s 0
+  q-is : q ≡ getD processors t 0
 
-sent-most : (m : ℕ) (durations starts processors : List ℕ) → Judgeable m durations starts processors → (s x : ℕ) → s ≡ x → x < m
-    → getD starts s 0 + getD durations s 0 ≤ 601000000
-sent-most m durations starts processors j s x e h = omega (arith, j .in-time s (omega arith), j .short s (omega arith))
+module _ {durations starts processors from to counts : List ℕ} {costs : List (List ℕ)} {k s t p q : ℕ}
+    (edge : Joined durations starts processors from to counts costs k) (r : Read from to processors k s t p q) where
+  -- the square of costs has a place for p and q, and no sum passes 32 bits
+  row-there : p < 16
+  row-there = rw (r .p-is, r .s-is) (edge .sender-on-processor)
 
--- edge k, by what the loop read: tasks s and t, their processors p and q, and w messages
-module _ (durations starts processors from to counts : List ℕ) (costs : List (List ℕ)) (k l : ℕ) (h : k < l) (all : Bool)
-    (inv : someIn (earlyAt durations starts processors from to counts costs) k (l - k) ≡ all)
-    (s t p q w : ℕ) (s-is : s ≡ getD from k 0) (t-is : t ≡ getD to k 0)
-    (p-is : p ≡ getD processors s 0) (q-is : q ≡ getD processors t 0) (w-is : w ≡ getD counts k 0) where
-  abbrev arrival : ℕ
-  arrival = getD starts s 0 + getD durations s 0 + w * getD (getD costs p []) q 0
+  column-there : q < 16
+  column-there = rw (r .q-is, r .t-is) (edge .on-processor)
 
-  is : earlyAt durations starts processors from to counts costs k ≡ ltb (getD starts t 0) arrival
-  unfolding earlyAt
-  is = rw (p-is, q-is, w-is, s-is, t-is)
+  sent-most : getD starts s 0 + getD durations s 0 ≤ latestStart + mostDuration
+  sent-most = rw (r .s-is) (omega (arith, edge .sender-in-time, edge .sender-short))
 
-  early : getD starts t 0 < arrival → true ≡ all
-  early e = sym (met (earlyAt durations starts processors from to counts costs) k l h (is ∙ lt-ltb (getD starts t 0) arrival e)) ∙ inv
+  module _ {w : ℕ} (w-is : w ≡ getD counts k 0) where
+    near : w * entry costs p q ≤ mostMessageTime
+    near = rw (r .p-is, r .q-is, w-is, r .s-is, r .t-is) (edge .near)
 
-  in-time : arrival ≤ getD starts t 0 → someIn (earlyAt durations starts processors from to counts costs) (k + 1) (l - (k + 1)) ≡ all
-  in-time e = sym (passed (earlyAt durations starts processors from to counts costs) k l h (is ∙ le-ltb (getD starts t 0) arrival e)) ∙ inv
+    -- the loop's turn
+    abbrev arrival : ℕ
+    arrival = getD starts s 0 + getD durations s 0 + w * entry costs p q
+
+    abbrev earlyOf : ℕ → Bool
+    earlyOf = earlyAt durations starts processors from to counts costs
+
+    is : earlyOf k ≡ ltb (getD starts t 0) arrival
+    unfolding earlyAt
+    is = rw (r .p-is, r .q-is, w-is, r .s-is, r .t-is)
+
+    module _ {l : ℕ} {all : Bool} (h : k < l) (inv : someIn earlyOf k (l - k) ≡ all) where
+      early : getD starts t 0 < arrival → true ≡ all
+      early e = sym (met earlyOf k l h (is ∙ lt-ltb (getD starts t 0) arrival e)) ∙ inv
+
+      in-time : arrival ≤ getD starts t 0 → someIn earlyOf (k + 1) (l - (k + 1)) ≡ all
+      in-time e = sym (passed earlyOf k l h (is ∙ le-ltb (getD starts t 0) arrival e)) ∙ inv
 
 abbrev Inv-loop : tie.InvT-loop
-Inv-loop tasks edges durations from to counts starts processors costs k₀ k =
+Inv-loop edges durations from to counts starts processors costs k₀ k =
     (k ≤ edges)
     × (someIn (earlyAt durations starts processors from to counts costs) k (edges - k)
     ≡ someIn (earlyAt durations starts processors from to counts costs) 0 edges)
 
 abbrev μ-loop : tie.MeasureT-loop
-μ-loop tasks edges durations from to counts starts processors costs k₀ k = edges - k
+μ-loop edges durations from to counts starts processors costs k₀ k = edges - k
+
+-- ---- the places
+
+-- in the loop edge k can be judged
+module _ (w : tie.In-loop Inv-loop μ-loop) where
+  abbrev begun : tie.Start Inv-loop μ-loop
+  begun = w .before .before .before .before .before .before .before .before
+
+  edge : Joined (begun .args .durations .now) (begun .args .starts .now) (begun .args .processors .now)
+      (begun .args .from .now) (begun .args .to .now) (begun .args .counts .now) (begun .args .t6) (w .before .loop .k)
+  edge = begun .pre .1 (w .before .loop .k) (w .loop-test .taken)
+
+-- after the four reads
+module _ (w : tie.After-index4 Inv-loop μ-loop) where
+  abbrev at-index3 : tie.After-index3 Inv-loop μ-loop
+  at-index3 = w .before .before
+
+  abbrev at-index2 : tie.After-index2 Inv-loop μ-loop
+  at-index2 = at-index3 .before .before
+
+  abbrev at-index : tie.After-index Inv-loop μ-loop
+  at-index = at-index2 .before .before
+
+  abbrev at-test : tie.In-loop Inv-loop μ-loop
+  at-test = at-index .before .before
+
+  read : Read (begun at-test .args .from .now) (begun at-test .args .to .now) (begun at-test .args .processors .now)
+      (at-test .before .loop .k) (at-index .index .result) (at-index2 .index2 .result) (at-index3 .index3 .result) (w .index4 .result)
+  read = record {
+    s-is = at-index .index .ensures .0;
+    t-is = at-index2 .index2 .ensures .0;
+    p-is = at-index3 .index3 .ensures .0;
+    q-is = w .index4 .ensures .0;
+  }
 
 loop-holds : tie.Need-loop-holds Inv-loop μ-loop
 loop-holds c = (search needs, all-left _ _)
@@ -71,9 +123,7 @@ index-requires-2 c κs = search needs
 shared-slice-read-index-3 : tie.Need-shared-slice-read-index-3 Inv-loop μ-loop
 shared-slice-read-index-3 c =
     let at-index = c .before .before .before in
-    let at-test = at-index .before .before in
-    let at-start = at-test .before .before .before .before .before .before .before .before in
-    within _ _ _ _ (at-index .index .ensures .0) (at-start .pre .1 .0 _ (at-test .loop-test .taken) .0) (at-start .pre .0 .0 .has-processors)
+    there (at-index .index .ensures .0) (edge (at-index .before .before) .sender-has-processor)
 
 index-requires-3 : tie.Need-index-requires-3 Inv-loop μ-loop
 index-requires-3 c κs = search needs
@@ -81,9 +131,7 @@ index-requires-3 c κs = search needs
 shared-slice-read-index-4 : tie.Need-shared-slice-read-index-4 Inv-loop μ-loop
 shared-slice-read-index-4 c =
     let at-index2 = c .before .before .before in
-    let at-test = at-index2 .before .before .before .before in
-    let at-start = at-test .before .before .before .before .before .before .before .before in
-    within _ _ _ _ (at-index2 .index2 .ensures .0) (at-start .pre .1 .0 _ (at-test .loop-test .taken) .1) (at-start .pre .0 .0 .has-processors)
+    there (at-index2 .index2 .ensures .0) (edge (at-index2 .before .before .before .before) .has-processor)
 
 index-requires-4 : tie.Need-index-requires-4 Inv-loop μ-loop
 index-requires-4 c κs = search needs
@@ -92,28 +140,16 @@ mul-finish : tie.Need-mul-finish Inv-loop μ-loop
 mul-finish c = search needs
 
 shared-slice-read-finish : tie.Need-shared-slice-read-finish Inv-loop μ-loop
-shared-slice-read-finish c =
-    let at-index = c .before .before .before .before .before .before .before in
-    let at-test = at-index .before .before in
-    let at-start = at-test .before .before .before .before .before .before .before .before in
-    within _ _ _ _ (at-index .index .ensures .0) (at-start .pre .1 .0 _ (at-test .loop-test .taken) .0) (at-start .pre .0 .0 .has-starts)
+shared-slice-read-finish c = there (read (c .before) .s-is) (edge (at-test (c .before)) .sender-has-start)
 
 mul-finish-2 : tie.Need-mul-finish-2 Inv-loop μ-loop
 mul-finish-2 c = search needs
 
 shared-slice-read-finish-2 : tie.Need-shared-slice-read-finish-2 Inv-loop μ-loop
-shared-slice-read-finish-2 c =
-    let at-index = c .before .before .before .before .before .before .before .before in
-    let at-test = at-index .before .before in
-    let at-start = at-test .before .before .before .before .before .before .before .before in
-    within _ _ _ _ (at-index .index .ensures .0) (at-start .pre .1 .0 _ (at-test .loop-test .taken) .0) (at-start .pre .0 .0 .has-durations)
+shared-slice-read-finish-2 c = there (read (c .before .before) .s-is) (edge (at-test (c .before .before)) .sender-has-duration)
 
 add-finish : tie.Need-add-finish Inv-loop μ-loop
-add-finish c =
-    let at-index = c .before .before .before .before .before .before .before .before in
-    let at-test = at-index .before .before in
-    let at-start = at-test .before .before .before .before .before .before .before .before in
-    search (needs, sent-most _ _ _ _ (at-start .pre .0 .0) _ _ (at-index .index .ensures .0) (at-start .pre .1 .0 _ (at-test .loop-test .taken) .0))
+add-finish c = search (needs, sent-most (edge (at-test (c .before .before))) (read (c .before .before)))
 
 mul-wide16 : tie.Need-mul-wide16 Inv-loop μ-loop
 mul-wide16 c = search needs
@@ -131,66 +167,39 @@ mul-arrival-2 : tie.Need-mul-arrival-2 Inv-loop μ-loop
 mul-arrival-2 c = search needs
 
 index-1-arrival : tie.Need-index-1-arrival Inv-loop μ-loop
-index-1-arrival c =
-    let at-index3 = c .before .before .before .before .before .before in
-    let at-index = at-index3 .before .before .before .before in
-    let at-test = at-index .before .before in
-    let at-start = at-test .before .before .before .before .before .before .before .before in
-    near (at-start .args .processors .now) _ (at-start .pre .1 .1 .0) _ _ _ (at-index .index .ensures .0)
-    (at-start .pre .1 .0 _ (at-test .loop-test .taken) .0) (at-index3 .index3 .ensures .0)
+index-1-arrival c = let at-index4 = c .before .before .before .before in row-there (edge (at-test at-index4)) (read at-index4)
 
 index-2-arrival : tie.Need-index-2-arrival Inv-loop μ-loop
-index-2-arrival c =
-    let at-index4 = c .before .before .before .before in
-    let at-index2 = at-index4 .before .before .before .before in
-    let at-test = at-index2 .before .before .before .before in
-    let at-start = at-test .before .before .before .before .before .before .before .before in
-    near (at-start .args .processors .now) _ (at-start .pre .1 .1 .0) _ _ _ (at-index2 .index2 .ensures .0)
-    (at-start .pre .1 .0 _ (at-test .loop-test .taken) .1) (at-index4 .index4 .ensures .0)
+index-2-arrival c = let at-index4 = c .before .before .before .before in column-there (edge (at-test at-index4)) (read at-index4)
 
 mul-arrival-3 : tie.Need-mul-arrival-3 Inv-loop μ-loop
 mul-arrival-3 c =
     let at-wide16 = c .before in
     let at-index4 = at-wide16 .before .before .before .before in
-    let at-index3 = at-index4 .before .before in
-    let at-test = at-index3 .before .before .before .before .before .before in
-    let at-start = at-test .before .before .before .before .before .before .before .before in
-    let edge = at-start .pre .1 .0 (at-test .before .loop .k) (at-test .loop-test .taken) in
-    let dear = at-start .pre .1 .1 .1 (at-index3 .index3 .result) (at-index4 .index4 .result) in
-    search (needs, message-most _ _ _ (at-wide16 .wide16 .ensures) (edge .2) dear)
+    search (needs, near (edge (at-test at-index4)) (read at-index4) (at-wide16 .wide16 .ensures))
 
 add-arrival : tie.Need-add-arrival Inv-loop μ-loop
 add-arrival c =
     let at-wide16 = c .before in
     let at-index4 = at-wide16 .before .before .before .before in
-    let at-index3 = at-index4 .before .before in
-    let at-index = at-index3 .before .before .before .before in
-    let at-test = at-index .before .before in
-    let at-start = at-test .before .before .before .before .before .before .before .before in
-    let edge = at-start .pre .1 .0 (at-test .before .loop .k) (at-test .loop-test .taken) in
-    let dear = at-start .pre .1 .1 .1 (at-index3 .index3 .result) (at-index4 .index4 .result) in
-    search (needs, sent-most _ _ _ _ (at-start .pre .0 .0) _ _ (at-index .index .ensures .0) (edge .0), message-most _ _ _ (at-wide16 .wide16 .ensures) (edge .2) dear)
+    let this = edge (at-test at-index4) in
+    search (needs, sent-most this (read at-index4), near this (read at-index4) (at-wide16 .wide16 .ensures))
 
 mul-if1 : tie.Need-mul-if1 Inv-loop μ-loop
 mul-if1 c = search needs
 
 shared-slice-read-if1 : tie.Need-shared-slice-read-if1 Inv-loop μ-loop
 shared-slice-read-if1 c =
-    let at-index2 = c .before .before .before .before .before .before .before .before .before .before in
-    let at-test = at-index2 .before .before .before .before in
-    let at-start = at-test .before .before .before .before .before .before .before .before in
-    within _ _ _ _ (at-index2 .index2 .ensures .0) (at-start .pre .1 .0 _ (at-test .loop-test .taken) .1) (at-start .pre .0 .0 .has-starts)
+    let at-index4 = c .before .before .before .before .before .before in
+    there (read at-index4 .t-is) (edge (at-test at-index4) .has-start)
 
 returns : tie.Need-returns Inv-loop μ-loop
 returns c =
     let at-wide16 = c .before .before .before in
     let at-index4 = at-wide16 .before .before .before .before in
-    let at-index3 = at-index4 .before .before in
-    let at-index2 = at-index3 .before .before in
-    let at-index = at-index2 .before .before in
-    let at-test = at-index .before .before in
-    early _ _ _ _ _ _ _ _ _ (at-test .loop-test .taken) _ (at-test .before .loop .inv .1) _ _ _ _ _
-    (at-index .index .ensures .0) (at-index2 .index2 .ensures .0) (at-index3 .index3 .ensures .0) (at-index4 .index4 .ensures .0) (at-wide16 .wide16 .ensures) (omega (arith, c .if1 .taken))
+    let test = at-test at-index4 in
+    early (edge test) (read at-index4) (at-wide16 .wide16 .ensures) (test .loop-test .taken) (test .before .loop .inv .1)
+    (omega (arith, c .if1 .taken))
 
 add-k : tie.Need-add-k Inv-loop μ-loop
 add-k c = search needs
@@ -202,13 +211,10 @@ loop-again : tie.Need-loop-again Inv-loop μ-loop
 loop-again c =
     let at-wide16 = c .before .before .before in
     let at-index4 = at-wide16 .before .before .before .before in
-    let at-index3 = at-index4 .before .before in
-    let at-index2 = at-index3 .before .before in
-    let at-index = at-index2 .before .before in
-    let at-test = at-index .before .before in (
+    let test = at-test at-index4 in (
       search needs,
-      in-time _ _ _ _ _ _ _ _ _ (at-test .loop-test .taken) _ (at-test .before .loop .inv .1) _ _ _ _ _
-          (at-index .index .ensures .0) (at-index2 .index2 .ensures .0) (at-index3 .index3 .ensures .0) (at-index4 .index4 .ensures .0) (at-wide16 .wide16 .ensures) (c .if1 .left),
+      in-time (edge test) (read at-index4) (at-wide16 .wide16 .ensures) (test .loop-test .taken) (test .before .loop .inv .1)
+          (omega (arith, c .if1 .left)),
     )
 
 returns-2 : tie.Need-returns-2 Inv-loop μ-loop

@@ -4,7 +4,7 @@ use mathlib.Core.Bool.{Bool, true, false}
 use Prim.Native.Nat.{ℕ, _+_, _-_, _≤_, _<_}
 use borrow.Author.Needs.{needs}
 use Rattle.schedule.specs.Pass.{someIn, overlapsLater}
-use Rattle.schedule.specs.Laws.Rows.{all-left, none-left, met, passed}
+use Rattle.schedule.specs.Laws.Rows.SomeIn.{all-left, none-left, met, passed}
 use Rattle.schedule.proofs.checker.any_overlap.Statement.{statement}
 use Rattle.schedule.proofs.checker.any_overlap.Tie as tie
 
@@ -19,7 +19,8 @@ module _ (f : ℕ → Bool) (t m : ℕ) (h : t < m) (all r : Bool) (inv : someIn
 abbrev Inv-loop : tie.InvT-loop
 Inv-loop tasks durations starts processors t₀ t =
     (t ≤ tasks)
-    × (someIn (overlapsLater durations starts processors tasks) t (tasks - t) ≡ someIn (overlapsLater durations starts processors tasks) 0 tasks)
+    × (someIn (overlapsLater durations starts processors tasks) t (tasks - t)
+    ≡ someIn (overlapsLater durations starts processors tasks) 0 tasks)
 
 abbrev μ-loop : tie.MeasureT-loop
 μ-loop tasks durations starts processors t₀ t = tasks - t
@@ -32,8 +33,9 @@ overlaps-later-requires c κs = search needs
 
 returns : tie.Need-returns Inv-loop μ-loop
 returns c =
-    let at-loop-test = c .before .before in
-    found _ _ _ (at-loop-test .loop-test .taken) _ _ (at-loop-test .before .loop .inv .1) (c .before .overlaps-later .ensures) (c .if1 .taken)
+    let at-call = c .before in
+    let at-test = at-call .before in
+    found _ _ _ (at-test .loop-test .taken) _ _ (at-test .before .loop .inv .1) (at-call .overlaps-later .ensures) (c .if1 .taken)
 
 add-t : tie.Need-add-t Inv-loop μ-loop
 add-t c = search needs
@@ -43,8 +45,11 @@ loop-less c = search needs
 
 loop-again : tie.Need-loop-again Inv-loop μ-loop
 loop-again c =
-    let at-loop-test = c .before .before in
-    (search needs, none-found _ _ _ (at-loop-test .loop-test .taken) _ _ (at-loop-test .before .loop .inv .1) (c .before .overlaps-later .ensures) (c .if1 .left))
+    let at-call = c .before in
+    let at-test = at-call .before in (
+      search needs,
+      none-found _ _ _ (at-test .loop-test .taken) _ _ (at-test .before .loop .inv .1) (at-call .overlaps-later .ensures) (c .if1 .left),
+    )
 
 returns-2 : tie.Need-returns-2 Inv-loop μ-loop
 returns-2 c = sym (none-left _ _ _ (c .loop-test .left)) ∙ c .before .loop .inv .1

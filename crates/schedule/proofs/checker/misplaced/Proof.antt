@@ -1,66 +1,98 @@
--- `checker::misplaced`: the tasks before the first trouble add nothing, and the first trouble is a processor's where it is not a start's at a lower task.
-use mathlib.Core.Logic.{_⊎_, inl, inr}
+-- `checker::misplaced`: the tasks that are left have the first trouble of all, as long as none was met.
 use mathlib.Core.Path.{_≡_, sym, _∙_}
 use mathlib.Core.List.{List}
-use Prim.Native.Nat.{ℕ, zero, suc, _-_, _≤_, _<_}
+use Prim.Native.Nat.{ℕ, _+_, _-_, _≤_, _<_}
 use native.Mathlib.Omega.{arith}
-use native.Mathlib.Numerals.{add-one}
 use borrow.Author.Needs.{needs}
 use lib.ListN.{getD}
-use Rattle.base.specs.Laws.Tests.{le-or-lt}
-use Rattle.schedule.specs.Pass.{First, placeTroubles}
-use Rattle.schedule.specs.Laws.Answer.{no-task-left, no-processor, too-late, well-placed}
+use Rattle.etf.specs.Checker.{latestStart}
+use Rattle.schedule.specs.Pass.{placeTroubles}
+use Rattle.schedule.specs.Laws.Checker.Answer.{all-tasks-left, no-task-left, no-processor, too-late, well-placed}
 use Rattle.schedule.proofs.checker.misplaced.Statement.{statement}
 use Rattle.schedule.proofs.checker.misplaced.Tie as tie
 
-module _ (n m : ℕ) (starts processors : List ℕ) (absent late : ℕ)
-    (A : First (λ T. n ≤ getD processors T 0) m absent) (L : First (λ T. 600000000 < getD starts T 0) m late) where
-  -- a task before both
-  present : (t : ℕ) → t < absent → getD processors t 0 < n
-  present t h = go (le-or-lt n (getD processors t 0))
-    where
-      go : (n ≤ getD processors t 0) ⊎ (getD processors t 0 < n) → getD processors t 0 < n
-      go (inl a) = absurd (A .before t h a)
-      go (inr a) = a
+-- task t, by its processor p
+module _ (n m t : ℕ) (starts processors : List ℕ) (h : t < m) (all p : ℕ)
+    (inv : placeTroubles n starts processors t (m - t) ≡ all) (p-is : p ≡ getD processors t 0) where
+  ten : n ≤ p → 10 ≡ all
+  ten a = sym (no-processor n starts processors t m h (omega arith)) ∙ inv
 
-  in-time : (t : ℕ) → t < late → getD starts t 0 ≤ 600000000
-  in-time t h = go (le-or-lt (getD starts t 0) 600000000)
-    where
-      go : (getD starts t 0 ≤ 600000000) ⊎ (600000000 < getD starts t 0) → getD starts t 0 ≤ 600000000
-      go (inl a) = a
-      go (inr a) = absurd (L .before t h a)
+  eleven : p < n → latestStart < getD starts t 0 → 11 ≡ all
+  eleven a b = sym (too-late n starts processors t m h (omega arith) b) ∙ inv
 
-  up-to : (t : ℕ) → t ≤ absent → t ≤ late → placeTroubles n starts processors 0 m ≡ placeTroubles n starts processors t (m - t)
-  up-to zero a b = let e : m - 0 ≡ m = omega arith in rw e
-  up-to (suc t) a b =
-      up-to t (omega arith) (omega arith)
-      ∙ (well-placed n starts processors t m (omega (arith, A .to-most)) (present t a) (in-time t b) ∙ rw add-one)
+  neither : p < n → getD starts t 0 ≤ latestStart → placeTroubles n starts processors (t + 1) (m - (t + 1)) ≡ all
+  neither a b = sym (well-placed n starts processors t m h (omega arith) b) ∙ inv
 
-  eleven : late < absent → 11 ≡ placeTroubles n starts processors 0 m
-  eleven h =
-      sym (up-to late (omega arith) (omega arith)
-      ∙ too-late n starts processors late m (omega (arith, A .to-most)) (present late h) (L .there (omega (arith, A .to-most))))
+abbrev Inv-loop : tie.InvT-loop
+Inv-loop tasks n starts processors t₀ t =
+    (t ≤ tasks) × (placeTroubles n starts processors t (tasks - t) ≡ placeTroubles n starts processors 0 tasks)
 
-  ten : absent ≤ late → absent < m → 10 ≡ placeTroubles n starts processors 0 m
-  ten h k = sym (up-to absent (omega arith) h ∙ no-processor n starts processors absent m k (A .there k))
+abbrev μ-loop : tie.MeasureT-loop
+μ-loop tasks n starts processors t₀ t = tasks - t
 
-  nothing : absent ≤ late → m ≤ absent → 0 ≡ placeTroubles n starts processors 0 m
-  nothing h k = sym (up-to absent (omega arith) h ∙ no-task-left n starts processors absent m k)
+loop-holds : tie.Need-loop-holds Inv-loop μ-loop
+loop-holds c = (search needs, all-tasks-left _ _ _ _)
 
-first-absent-requires : tie.Need-first-absent-requires
-first-absent-requires c κs = search needs
+shared-slice-read-index : tie.Need-shared-slice-read-index Inv-loop μ-loop
+shared-slice-read-index c = search needs
 
-first-late-requires : tie.Need-first-late-requires
-first-late-requires c κs = search needs
+index-requires : tie.Need-index-requires Inv-loop μ-loop
+index-requires c κs = search needs
 
-returns : tie.Need-returns
-returns c = eleven _ _ _ _ _ _ (c .before .before .first-absent .ensures) (c .before .first-late .ensures) (c .if1 .taken)
+returns : tie.Need-returns Inv-loop μ-loop
+returns c =
+    let at-index = c .before in
+    let at-test = at-index .before .before in
+    ten _ _ _ _ _ (at-test .loop-test .taken) _ _ (at-test .before .loop .inv .1) (at-index .index .ensures .0)
+    (omega (arith, c .if1 .taken))
 
-returns-2 : tie.Need-returns-2
-returns-2 c = ten _ _ _ _ _ _ (c .before .before .before .first-absent .ensures) (c .before .before .first-late .ensures) (c .before .if1 .left) (c .if2 .taken)
+mul-if2 : tie.Need-mul-if2 Inv-loop μ-loop
+mul-if2 c = search needs
 
-returns-3 : tie.Need-returns-3
-returns-3 c = nothing _ _ _ _ _ _ (c .before .before .before .first-absent .ensures) (c .before .before .first-late .ensures) (c .before .if1 .left) (c .if2 .left)
+shared-slice-read-if2 : tie.Need-shared-slice-read-if2 Inv-loop μ-loop
+shared-slice-read-if2 c = search needs
+
+returns-2 : tie.Need-returns-2 Inv-loop μ-loop
+returns-2 c =
+    let at-if1 = c .before .before in
+    let at-index = at-if1 .before in
+    let at-test = at-index .before .before in
+    eleven _ _ _ _ _ (at-test .loop-test .taken) _ _ (at-test .before .loop .inv .1) (at-index .index .ensures .0)
+    (omega (arith, at-if1 .if1 .left)) (omega (arith, c .if2 .taken))
+
+add-t : tie.Need-add-t Inv-loop μ-loop
+add-t c = search needs
+
+loop-less : tie.Need-loop-less Inv-loop μ-loop
+loop-less c = search needs
+
+loop-again : tie.Need-loop-again Inv-loop μ-loop
+loop-again c =
+    let at-if1 = c .before .before in
+    let at-index = at-if1 .before in
+    let at-test = at-index .before .before in (
+      search needs,
+      neither _ _ _ _ _ (at-test .loop-test .taken) _ _ (at-test .before .loop .inv .1) (at-index .index .ensures .0)
+          (omega (arith, at-if1 .if1 .left)) (omega (arith, c .if2 .left)),
+    )
+
+returns-3 : tie.Need-returns-3 Inv-loop μ-loop
+returns-3 c = sym (no-task-left _ _ _ _ _ (c .loop-test .left)) ∙ c .before .loop .inv .1
 
 pub misplaced-spec : {M : Type 1} → statement M
-misplaced-spec = tie.close (tie.spec first-absent-requires first-late-requires returns returns-2 returns-3)
+misplaced-spec =
+    tie.close
+    (tie.spec
+    Inv-loop
+    μ-loop
+    loop-holds
+    shared-slice-read-index
+    index-requires
+    returns
+    mul-if2
+    shared-slice-read-if2
+    returns-2
+    add-t
+    loop-less
+    loop-again
+    returns-3)

@@ -11,7 +11,7 @@ use borrow.Author.Tests.{lt-ltb, le-ltb, eq-eqb, ne-eqb}
 use lib.Dec.{eqb}
 use lib.ListN.{getD}
 use Rattle.schedule.specs.Pass.{someIn, overlapAt, overlapsLater}
-use Rattle.schedule.specs.Laws.Rows.{none-left, met, passed}
+use Rattle.schedule.specs.Laws.Rows.SomeIn.{none-left, met, passed}
 use Rattle.schedule.proofs.checker.overlaps_later.Statement.{statement}
 use Rattle.schedule.proofs.checker.overlaps_later.Tie as tie
 
@@ -38,36 +38,56 @@ module _ (durations starts processors : List ℕ) (t u : ℕ) where
   unfolding overlapAt
   elsewhere a = rw (ne-eqb _ _ a)
 
--- an overlap was counted, or one is among the tasks from u on
-module _ (durations starts processors : List ℕ) (m t : ℕ) where
-  abbrev Counted : ℕ → ℕ → Type 0
-  Counted found u = (not (eqb found 0) || someIn (overlapAt durations starts processors t) u (m - u)) ≡ overlapsLater durations starts processors m t
+-- so many overlaps were counted: there is one, or one is among the tasks from u on, exactly if task t overlaps a later one
+record Going (durations starts processors : List ℕ) (m t found u : ℕ) : Type 0 where
+  past : t < u
+  within : u ≤ m
+  few : found ≤ u
+  counted : (not (eqb found 0) || someIn (overlapAt durations starts processors t) u (m - u))
+      ≡ overlapsLater durations starts processors m t
 
-  none-yet : Counted 0 (t + 1)
-  unfolding overlapsLater
-  none-yet = rw (add-one t)
+begun : (durations starts processors : List ℕ) (m t : ℕ) → t < m → Going durations starts processors m t 0 (t + 1)
+unfolding overlapsLater
+begun durations starts processors m t h =
+    record { past = omega arith; within = omega arith; few = omega arith; counted = rw (add-one t) }
 
-  one-more : (found u : ℕ) → Counted found u → u < m → overlapAt durations starts processors t u ≡ true → Counted (found + 1) (u + 1)
-  one-more found u e h o =
-      rw (ne-eqb (found + 1) 0 (λ z. absurd (omega arith)))
-      (sym (all-true (not (eqb found 0))) ∙ (ap (λ (b : Bool). not (eqb found 0) || b) (sym (met (overlapAt durations starts processors t) u m h o)) ∙ e))
+module _ {durations starts processors : List ℕ} {m t found u : ℕ} (g : Going durations starts processors m t found u) where
+  abbrev over : ℕ → Bool
+  over = overlapAt durations starts processors t
+
+  -- what is left by a turn, or after the last
+  left : {b : Bool} → someIn over u (m - u) ≡ b → (not (eqb found 0) || b) ≡ overlapsLater durations starts processors m t
+  left e = ap (λ (b : Bool). not (eqb found 0) || b) (sym e) ∙ g .counted
+
+  one-more : {found′ : ℕ} → found′ ≡ found + 1 → u < m → over u ≡ true → Going durations starts processors m t found′ (u + 1)
+  one-more {found′ = found′} e h o = record {
+    past = omega (arith, g .past);
+    within = omega arith;
+    few = omega (arith, g .few);
+    counted = rw (ne-eqb found′ 0 (λ z. absurd (omega arith))) (sym (all-true (not (eqb found 0))) ∙ left (met over u m h o));
+  }
     where
       all-true : (b : Bool) → (b || true) ≡ true
       all-true true = refl
       all-true false = refl
 
-  no-more : (found u : ℕ) → Counted found u → u < m → overlapAt durations starts processors t u ≡ false → Counted found (u + 1)
-  no-more found u e h o = ap (λ (b : Bool). not (eqb found 0) || b) (sym (passed (overlapAt durations starts processors t) u m h o)) ∙ e
+  no-more : {found′ : ℕ} → found′ ≡ found → u < m → over u ≡ false → Going durations starts processors m t found′ (u + 1)
+  no-more e h o = record {
+    past = omega (arith, g .past);
+    within = omega arith;
+    few = omega (arith, g .few);
+    counted = rw e (left (passed over u m h o));
+  }
 
-  all-counted : (found u : ℕ) → Counted found u → m ≤ u → not (eqb found 0) ≡ overlapsLater durations starts processors m t
-  all-counted found u e h = sym (with-false (not (eqb found 0))) ∙ (ap (λ (b : Bool). not (eqb found 0) || b) (sym (none-left (overlapAt durations starts processors t) u m h)) ∙ e)
+  all-counted : m ≤ u → not (eqb found 0) ≡ overlapsLater durations starts processors m t
+  all-counted h = sym (with-false (not (eqb found 0))) ∙ left (none-left over u m h)
     where
       with-false : (b : Bool) → (b || false) ≡ b
       with-false true = refl
       with-false false = refl
 
 abbrev Inv-loop : tie.InvT-loop
-Inv-loop t tasks durations starts processors processor start finish found₀ u₀ found u = (t < u) × (u ≤ tasks) × (found ≤ u) × Counted durations starts processors tasks t found u
+Inv-loop t tasks durations starts processors processor start finish found₀ u₀ found u = Going durations starts processors tasks t found u
 
 abbrev μ-loop : tie.MeasureT-loop
 μ-loop t tasks durations starts processors processor start finish found₀ u₀ found u = tasks - u
@@ -90,14 +110,16 @@ shared-slice-read-finish c = search needs
 add-finish : tie.Need-add-finish Inv-loop μ-loop
 add-finish c =
     let at-start = c .before .before .before in
+    let t = at-start .args .t in
+    let later = at-start .pre .0 in
     let judgeable = at-start .pre .1 in
-    search (needs, judgeable .in-time (at-start .args .t) (at-start .pre .0), judgeable .short (at-start .args .t) (at-start .pre .0))
+    search (needs, judgeable .in-time t later, judgeable .short t later)
 
 add-u : tie.Need-add-u Inv-loop μ-loop
 add-u c = search needs
 
 loop-holds : tie.Need-loop-holds Inv-loop μ-loop
-loop-holds c = (search needs, search needs, search needs, none-yet _ _ _ _ _)
+loop-holds c = begun _ _ _ _ _ (c .before .before .before .pre .0)
 
 mul-other : tie.Need-mul-other Inv-loop μ-loop
 mul-other c = search needs
@@ -113,10 +135,12 @@ shared-slice-read-end c = search needs
 
 add-end : tie.Need-add-end Inv-loop μ-loop
 add-end c =
-    let at-loop-test = c .before .before in
-    let at-loop = at-loop-test .before in
+    let at-test = c .before .before in
+    let at-loop = at-test .before in
+    let u = at-loop .loop .u in
+    let more = at-test .loop-test .taken in
     let judgeable = at-loop .before .before .before .before .pre .1 in
-    search (needs, judgeable .in-time (at-loop .loop .u) (at-loop-test .loop-test .taken), judgeable .short (at-loop .loop .u) (at-loop-test .loop-test .taken))
+    search (needs, judgeable .in-time u more, judgeable .short u more)
 
 shared-slice-read-if1 : tie.Need-shared-slice-read-if1 Inv-loop μ-loop
 shared-slice-read-if1 c = search needs
@@ -124,7 +148,8 @@ shared-slice-read-if1 c = search needs
 add-found : tie.Need-add-found Inv-loop μ-loop
 add-found c =
     let at-loop = c .before .before .before .before .before .before .before in
-    record { fits = omega (arith, at-loop .loop .inv .1, at-loop .loop .inv .2, at-loop .before .before .before .before .pre .1 .few) }
+    let judgeable = at-loop .before .before .before .before .pre .1 in
+    record { fits = omega (arith, at-loop .loop .inv .within, at-loop .loop .inv .few, judgeable .few) }
 
 add-u-2 : tie.Need-add-u-2 Inv-loop μ-loop
 add-u-2 c = search needs
@@ -134,28 +159,20 @@ loop-less c = search needs
 
 loop-again : tie.Need-loop-again Inv-loop μ-loop
 loop-again c =
-    let at-loop-test = c .before .before .before .before in
-    let at-loop = at-loop-test .before in
-    let more = at-loop-test .loop-test .taken in
-    let few = at-loop .loop .inv .2 in
-    let counted = at-loop .loop .inv .3 in (
-      search needs,
-      search needs,
-      ⊎-elim (λ w. omega (arith, w .3, few)) (⊎-elim (λ w. omega (arith, w .3, few)) (⊎-elim (λ w. omega (arith, w .2, few)) (λ w. omega (arith, w .1, few)))) (c .if1 .came),
-      ⊎-elim
-          (λ w. rw (w .3) (one-more _ _ _ _ _ (at-loop .loop .found) _ counted more
-          (overlaps _ _ _ _ _ (w .0 .taken) (omega (arith, w .1 .taken)) (w .2 .taken))))
-          (⊎-elim
-          (λ w. rw (w .3) (no-more _ _ _ _ _ (at-loop .loop .found) _ counted more (finishes-before _ _ _ _ _ (w .0 .taken) (w .1 .taken) (w .2 .left))))
-          (⊎-elim
-          (λ w. rw (w .2) (no-more _ _ _ _ _ (at-loop .loop .found) _ counted more
-          (starts-after _ _ _ _ _ (w .0 .taken) (omega (arith, w .1 .left)))))
-          (λ w. rw (w .1) (no-more _ _ _ _ _ (at-loop .loop .found) _ counted more (elsewhere _ _ _ _ _ (w .0 .left))))))
-          (c .if1 .came),
-    )
+    let at-test = c .before .before .before .before in
+    let going = at-test .before .loop .inv in
+    let more = at-test .loop-test .taken in
+    ⊎-elim
+    (λ w. one-more going (w .3) more (overlaps _ _ _ _ _ (w .0 .taken) (omega (arith, w .1 .taken)) (w .2 .taken)))
+    (⊎-elim
+    (λ w. no-more going (w .3) more (finishes-before _ _ _ _ _ (w .0 .taken) (w .1 .taken) (w .2 .left)))
+    (⊎-elim
+    (λ w. no-more going (w .2) more (starts-after _ _ _ _ _ (w .0 .taken) (omega (arith, w .1 .left))))
+    (λ w. no-more going (w .1) more (elsewhere _ _ _ _ _ (w .0 .left)))))
+    (c .if1 .came)
 
 returns : tie.Need-returns Inv-loop μ-loop
-returns c = all-counted _ _ _ _ _ (c .before .loop .found) _ (c .before .loop .inv .3) (c .loop-test .left)
+returns c = all-counted (c .before .loop .inv) (c .loop-test .left)
 
 pub overlaps-later-spec : {M : Type 1} → statement M
 overlaps-later-spec =

@@ -1,11 +1,13 @@
--- `costs::cost`: the unit cost times the hops, of which there are at most eight.
+-- `costs::cost`: the unit cost times the hops; no cost passes 32 bits.
 use mathlib.Core.Path.{_≡_}
 use Prim.Native.Nat.{ℕ, _*_, _≤_}
 use borrow.Author.Needs.{needs}
 use borrow.Author.Tests.{eq-eqb, ne-eqb}
 use Rattle.job.specs.declared.Platform.{Platform}
 use Rattle.etf.specs.Topology.{hops, cost}
+use Rattle.etf.specs.Bounds.{mostCost}
 use Rattle.etf.specs.Laws.Costs.{cost-most}
+use Rattle.schedule.specs.Pass.{Wired}
 use Rattle.schedule.proofs.costs.cost.Statement.{statement}
 use Rattle.schedule.proofs.costs.cost.Tie as tie
 
@@ -19,8 +21,8 @@ module _ (r : Platform) (p q : ℕ) where
     unfolding cost
     between = simp (ne-eqb _ _ a, eu, eh)
 
-    small : r .processors ≤ 16 → r .unit ≤ 100 → u * h ≤ 800
-    small n c = rw between (cost-most r p q n c)
+    small : Wired r → u * h ≤ mostCost
+    small w = rw between (cost-most r p q (w .few-processors) (w .small-unit))
 
 returns : tie.Need-returns
 returns c = itself _ _ _ (c .if1 .taken)
@@ -33,8 +35,9 @@ hops-requires c κs = search needs
 
 mul-result : tie.Need-mul-result
 mul-result c =
-    let h = small _ _ _ _ _ (c .before .before .if1 .left) (c .before .wide8 .ensures .0) (c .hops .ensures) (search needs) (search needs) in
-    search needs
+    let at-wide8 = c .before in
+    let at-if1 = at-wide8 .before in
+    search (needs, small _ _ _ _ _ (at-if1 .if1 .left) (at-wide8 .wide8 .ensures .0) (c .hops .ensures) (at-if1 .before .pre .0))
 
 returns-2 : tie.Need-returns-2
 returns-2 c = between _ _ _ _ _ (c .before .before .if1 .left) (c .before .wide8 .ensures .0) (c .hops .ensures)

@@ -37,7 +37,10 @@ wide8-requires : tie.Need-wide8-requires
 wide8-requires c κs = search needs
 
 returns-2 : tie.Need-returns-2
-returns-2 c = c .wide8 .ensures .0 ∙ c .before .hops .ensures ∙ hypercube _ _ _ (c .before .before .before .if1 .left) (c .before .before .if2 .taken)
+returns-2 c =
+    let at-hops = c .before in
+    let at-if2 = at-hops .before in
+    c .wide8 .ensures .0 ∙ at-hops .hops .ensures ∙ hypercube _ _ _ (at-if2 .before .if1 .left) (at-if2 .if2 .taken)
 
 index-requires : tie.Need-index-requires
 index-requires c κs = search needs
@@ -47,9 +50,13 @@ ring-hops-requires c κs = search needs
 
 returns-3 : tie.Need-returns-3
 returns-3 c =
-    let args = c .before .before .before .before .args in
-    c .ring-hops .ensures ∙ ap (λ n. ringHops n (args .p) (args .q)) (c .before .index .ensures .0)
-    ∙ ring _ _ _ (c .before .before .before .if1 .left) (c .before .before .if2 .left) (search needs)
+    let at-index = c .before in
+    let at-if2 = at-index .before in
+    let at-if1 = at-if2 .before in
+    let at-start = at-if1 .before in
+    let args = at-start .args in
+    c .ring-hops .ensures ∙ ap (λ n. ringHops n (args .p) (args .q)) (at-index .index .ensures .0)
+    ∙ ring _ _ _ (at-if1 .if1 .left) (at-if2 .if2 .left) (at-start .pre .0 .known-topology)
 
 pub hops-spec : {M : Type 1} → statement M
 hops-spec =

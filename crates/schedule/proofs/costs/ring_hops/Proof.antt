@@ -29,7 +29,11 @@ module _ (n p q d : ℕ) where
 -- the difference as the code finds it
 found : (c : tie.Joined1) →
     (c .if1 .d ≡ difference (c .before .args .p) (c .before .args .q)) × (c .if1 .d < c .before .args .n)
-found c = ⊎-elim (λ w. above _ _ _ _ (w .0 .taken) (w .1) (search needs)) (λ w. below _ _ _ _ (w .0 .left) (w .1) (search needs)) (c .if1 .came)
+found c =
+    ⊎-elim
+    (λ w. above _ _ _ _ (w .0 .taken) (w .1) (search needs))
+    (λ w. below _ _ _ _ (w .0 .left) (w .1) (search needs))
+    (c .if1 .came)
 
 sub-d : tie.Need-sub-d
 sub-d c = search needs

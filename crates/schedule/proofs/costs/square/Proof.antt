@@ -10,15 +10,12 @@ use borrow.Author.Tests.{lt-ltb, le-ltb}
 use lib.ListN.{length, getD, set, replicate, length-set, getD-replicate}
 use lib.Seq.{getD-set-same, getD-set-other, ext-getD}
 use Rattle.base.specs.Laws.Tests.{lt-or-ge}
-use Rattle.etf.specs.Topology.{square, cost}
+use Rattle.etf.specs.Topology.{entry, square, cost}
 use Rattle.etf.specs.Laws.Costs.{square-length, row-length, square-at, square-cost}
 use Rattle.schedule.proofs.costs.square.Statement.{statement}
 use Rattle.schedule.proofs.costs.square.Tie as tie
 
--- ---- rows of rows: an entry, and one store
-
-abbrev entry : List (List ℕ) → ℕ → ℕ → ℕ
-entry a i j = getD (getD a i []) j 0
+-- ---- rows of rows: one store
 
 abbrev stored : List (List ℕ) → ℕ → ℕ → ℕ → List (List ℕ)
 stored a p q x = set a p (set (getD a p []) q x)
@@ -74,7 +71,8 @@ module _ (n : ℕ) (c : ℕ → ℕ → ℕ) where
       at i j h k (inl p) (inr q) = inl (none i j h k ∙ sym (square-at n c i j h k ∙ rw (lt-ltb i n p, le-ltb j n q)))
       at i j h k (inr p) q = inl (none i j h k ∙ sym (square-at n c i j h k ∙ rw (le-ltb i n p)))
 
-  more : (a : List (List ℕ)) (p q x : ℕ) → Held (16 * p + q) a → n ≤ 16 → p < n → q < n → x ≡ c p q → Held (16 * p + (q + 1)) (stored a p q x)
+  more : (a : List (List ℕ)) (p q x : ℕ) → Held (16 * p + q) a → n ≤ 16 → p < n → q < n → x ≡ c p q
+      → Held (16 * p + (q + 1)) (stored a p q x)
   more a p q x s m hp hq e = record {
     rows = length-set a p (set (getD a p []) q x) ∙ s .rows;
     columns = λ i h. row-kept a p q x i ∙ s .columns i h;
@@ -164,7 +162,10 @@ loop2-less : tie.Need-loop2-less Inv-loop2 μ-loop2 Inv-loop μ-loop
 loop2-less c = search needs
 
 loop2-again : tie.Need-loop2-again Inv-loop2 μ-loop2 Inv-loop μ-loop
-loop2-again c = (search needs, more _ _ _ _ _ _ (c .before .before .loop2 .inv .1) (search needs) (search needs) (search needs) (c .cost .ensures))
+loop2-again c = (
+  search needs,
+  more _ _ _ _ _ _ (c .before .before .loop2 .inv .1) (search needs) (search needs) (search needs) (c .cost .ensures),
+)
 
 add-p : tie.Need-add-p Inv-loop2 μ-loop2 Inv-loop μ-loop
 add-p c = search needs

@@ -10,20 +10,22 @@ use Rattle.base.specs.Laws.Lists.{upto-of, filter-of}
 use Rattle.base.specs.Laws.Values.{value-in}
 use Rattle.schedule.specs.declared.planner.Moment.{Moment}
 use Rattle.schedule.specs.declared.planner.Choice.{Choice}
-use Rattle.schedule.specs.Pass.{Surveyed, soonest, freeAmong, noPair, rowOf, searched, Looked}
+use Rattle.schedule.specs.Pass.{Surveyed, soonest, freeAmong, noPair, rowOf, searched, Inbox, Looked}
 use Rattle.schedule.proofs.planner.look.Statement.{statement}
 use Rattle.schedule.proofs.planner.look.Tie as tie
 
-free-below : (busy : List ℕ) (n clock : ℕ) (free : List ℕ) (r : Moment) → Surveyed busy n clock free r → n ≤ 16 → (i : ℕ) → i < r .free → getD free i 0 < 16
+free-below : (busy : List ℕ) (n clock : ℕ) (free : List ℕ) (r : Moment) → Surveyed busy n clock free r → n ≤ 16
+    → (i : ℕ) → i < r .free → getD free i 0 < 16
 unfolding freeAmong
 free-below busy n clock free r s h i k =
     let a = subst (λ (fs : List ℕ). getD free i 0 ∈ fs) (s .listed) (value-in (λ x. getD free x 0) (r .free) i k) in
     omega (arith, upto-of n (getD free i 0) (filter-of _ (upto n) (getD free i 0) a .0))
 
 -- the survey is of the n processors, and the search goes by what it lists
-looked : {busy waiting latest arrivals free : List ℕ} {n k clock low m : ℕ} {s : Moment} {r : Choice} → Surveyed busy k clock free s → k ≡ n
-    → r .next ≡ s .next → r .pair ≡ searched clock waiting latest (rowOf clock arrivals free (s .free)) low (m - low) noPair
-    → Looked clock low m n busy waiting latest arrivals r
+looked : {busy free : List ℕ} {B : Inbox} {n k clock low m : ℕ} {s : Moment} {r : Choice} → Surveyed busy k clock free s → k ≡ n
+    → r .next ≡ s .next
+    → r .pair ≡ searched clock (B .waiting) (B .latest) (λ i. i) (rowOf clock (B .arrivals) free (s .free)) low (m - low) noPair
+    → Looked clock low m n (λ i. i) B busy r
 looked {busy} {clock = clock} surveyed e next found = record {
   free = _;
   count = _;
@@ -44,10 +46,13 @@ slice-aggregate-choose c = search needs
 choose-requires : tie.Need-choose-requires
 choose-requires c κs =
     let at-survey = c .before .before in
-    let pre = at-survey .before .before .before .before .before .before .pre in
-    let surveyed = at-survey .survey .ensures in (
-      (pre .0 .1, pre .0 .2, pre .0 .3, pre .1 .1, pre .1 .2, pre .1 .3),
-      (omega (arith, surveyed .few, pre .0 .0, at-survey .survey .kept .1 .1 .1 .0), free-below _ _ _ _ _ surveyed (omega (arith, pre .0 .0))),
+    let surveyed = at-survey .survey .ensures in
+    let few : at-survey .before .before .before .before .before .before .args .n ≤ 16 = search needs in (
+      search needs,
+      (
+        search needs,
+        (omega (arith, surveyed .few, few, at-survey .survey .kept .1 .1 .1 .0), free-below _ _ _ _ _ surveyed (omega (arith, few))),
+      ),
     )
 
 returns : tie.Need-returns

@@ -1,90 +1,95 @@
--- `planner::place` writes the pair down, sends along the task's edges and skips the placed tasks: its promise is the three promises together.
-use Prim.Native.Nat.{ℕ, _≤_}
-use mathlib.Core.Path.{_≡_, _∙_}
+-- `planner::place` writes the pair down, sends along the task's edges and skips the placed tasks: it promises what these three promise.
+use mathlib.Core.Path.{_≡_, ap, _∙_}
 use mathlib.Core.List.{List}
+use Prim.Native.Nat.{ℕ, _≤_, _<_}
 use native.Mathlib.Omega.{arith}
-use borrow.Author.Needs.{needs}
-use lib.ListN.{getD, set}
-use Rattle.base.specs.Rows.{sum, one-if}
+use lib.ListN.{length, set, length-set}
 use Rattle.schedule.specs.declared.planner.Pair.{Pair}
-use Rattle.schedule.specs.Pass.{sentTo, placedMark, WrittenDown, Sent, Skipped, Placed}
+use Rattle.schedule.specs.Pass.{inbox, tables, placedMark, ToSend, Sent, ToPlace, Skipped, Placed}
 use Rattle.schedule.proofs.planner.place.Statement.{statement}
 use Rattle.schedule.proofs.planner.place.Tie as tie
 
--- a pair written down
-abbrev Noted : Pair → ℕ → List ℕ → List ℕ → List ℕ → List ℕ → List ℕ → List ℕ → List ℕ → List ℕ → Type 0
-Noted pair = WrittenDown (pair .task) (pair .processor) (pair .start)
+module _ {pair : Pair} {finish first last low m n : ℕ} {row to counts starts processors busy arrivals waiting latest : List ℕ}
+    (asked : ToPlace pair finish first last low m n row to counts (tables starts processors busy (inbox arrivals waiting latest))) where
+  waiting-room : pair .task < length waiting
+  waiting-room = omega (arith, asked .task-below, asked .sending .waiting-size, length-set waiting (pair .task) placedMark)
 
-module _ (pair : Pair) (finish : ℕ) (starts starts′ processors processors′ busy busy′ waiting waiting₁ : List ℕ)
-    (P : Noted pair finish starts starts′ processors processors′ busy busy′ waiting waiting₁) where
-  still-enough : (first last : ℕ) (to : List ℕ) → ((T : ℕ) → sum last (λ k. one-if (sentTo to first T k)) ≤ getD (set waiting (pair .task) placedMark) T 0)
-      → (T : ℕ) → sum last (λ k. one-if (sentTo to first T k)) ≤ getD waiting₁ T 0
-  still-enough first last to h = rw (P .waiting-are) h
+  -- the lists after the pair is written down, the others as they were
+  module _ {waiting₁ : List ℕ} (waiting-are : waiting₁ ≡ set waiting (pair .task) placedMark) where
+    to-skip : {k : ℕ} → k ≡ length waiting₁ → m ≤ k
+    to-skip e = omega (arith, ap length waiting-are, asked .few-tasks, asked .sending .waiting-size)
 
-  together : (first last low m n : ℕ) (row to counts arrivals arrivals′ waiting′ latest latest′ : List ℕ)
-      → Sent first last finish n row to counts arrivals arrivals′ waiting₁ waiting′ latest latest′ → (r : ℕ) → Skipped waiting′ low m r
-      → Placed pair finish first last low m n row to counts starts starts′ processors processors′ arrivals arrivals′ waiting waiting′ latest latest′ busy busy′ r
-  together first last low m n row to counts arrivals arrivals′ waiting′ latest latest′ s r z = record {
-    starts-are = P .starts-are;
-    processors-are = P .processors-are;
-    busy-are = P .busy-are;
-    sent = rw (P .waiting-are) at s;
-    skipped = z;
-  }
+    to-send : ToSend first last finish n row to counts (inbox arrivals waiting₁ latest)
+    to-send = rw waiting-are (asked .sending)
 
--- what was written down is the pair
-of-pair : (pair : Pair) {T Q s f : ℕ} {starts starts′ processors processors′ busy busy′ waiting waiting₁ : List ℕ}
-    → WrittenDown T Q s f starts starts′ processors processors′ busy busy′ waiting waiting₁
-    → T ≡ pair .task → Q ≡ pair .processor → s ≡ pair .start
-    → Noted pair f starts starts′ processors processors′ busy busy′ waiting waiting₁
-of-pair pair W a b c = rw (a, b, c) at W
+    module _ {starts₁ processors₁ busy₁ : List ℕ} (starts-are : starts₁ ≡ set starts (pair .task) (pair .start))
+        (processors-are : processors₁ ≡ set processors (pair .task) (pair .processor))
+        (busy-are : busy₁ ≡ set busy (pair .processor) finish) where
+      together : {arrivals₂ waiting₂ latest₂ : List ℕ} {r : ℕ}
+          → Sent first last finish n row to counts (inbox arrivals waiting₁ latest) (inbox arrivals₂ waiting₂ latest₂)
+          → Skipped waiting₂ (λ i. i) low m r
+          → Placed pair finish first last low m n (λ i. i) row to counts (tables starts processors busy (inbox arrivals waiting latest))
+          (tables starts₁ processors₁ busy₁ (inbox arrivals₂ waiting₂ latest₂)) r
+      together s z = record {
+        starts-are = starts-are;
+        processors-are = processors-are;
+        busy-are = busy-are;
+        sent = rw waiting-are at s;
+        skipped = z;
+      }
+
+-- ---- the places
+
+abbrev start-of : tie.After-put → tie.Start
+start-of p = p .before .before .before .before .before .before .before .before .before .before .before .before .before .before
+
+abbrev put-of : tie.After-send → tie.After-put
+put-of s = s .before .before .before .before .before .before .before .before .before .before .before .before
+
+abbrev send-of : tie.After-skip → tie.After-send
+send-of c = c .before .before .before .before .before .before .before .before
 
 put-requires : tie.Need-put-requires
-put-requires c κs = search needs
+put-requires c κs =
+    let asked = c .before .before .before .before .before .before .before .before .before .before .before .before .before .pre in (
+      (asked .has-start, asked .has-processor, waiting-room asked),
+      (omega (arith, asked .processor-below, asked .busy-size), asked .processor-below),
+    )
 
 send-requires : tie.Need-send-requires
 send-requires c κs =
     let at-put = c .before .before .before .before .before .before .before .before .before .before .before in
-    let pre = at-put .before .before .before .before .before .before .before .before .before .before .before .before .before .before .pre in (
-      (pre .1 .0 .0, pre .1 .0 .1, pre .1 .0 .2, pre .1 .0 .3, pre .1 .0 .4),
-      (
-        (pre .1 .1 .0 .0, omega (arith, pre .1 .1 .0 .1, at-put .put .kept .1 .1 .1 .1 .1 .1 .1 .0), pre .1 .1 .0 .2, pre .1 .1 .0 .4),
-        (pre .1 .1 .1 .0, still-enough _ _ _ _ _ _ _ _ _ _ (at-put .put .ensures) _ _ _ (pre .1 .1 .1 .1)),
-      ),
-    )
+    to-send (start-of at-put .pre) (at-put .put .ensures .1 .1 .1)
 
 skip-requires : tie.Need-skip-requires
 skip-requires c κs =
     let at-send = c .before .before .before .before .before .before .before in
-    let at-put = at-send .before .before .before .before .before .before .before .before .before .before .before .before in
-    let pre = at-put .before .before .before .before .before .before .before .before .before .before .before .before .before .before .pre in
-    (pre .0 .4, omega (arith, pre .0 .5, pre .1 .1 .0 .1, at-put .put .kept .1 .1 .1 .1 .1 .1 .1 .0, at-send .send .kept .1 .1 .1 .1 .1 .1 .1 .1 .0))
+    let asked = start-of (put-of at-send) .pre in
+    (asked .low-most, to-skip asked (put-of at-send .put .ensures .1 .1 .1) (at-send .send .kept .1 .1 .1 .1 .1 .1 .1 .1 .0))
 
 same-length : tie.Need-same-length
-same-length c = c .before .before .before .before .before .before .before .before .before .before .before .before .before .before .before .before .before .before .before .before .put .kept .1 .1 .1 .1 .0
+same-length c = put-of (send-of c) .put .kept .1 .1 .1 .1 .0
 
 same-length-2 : tie.Need-same-length-2
-same-length-2 c = c .before .before .before .before .before .before .before .before .before .before .before .before .before .before .before .before .before .before .before .before .put .kept .1 .1 .1 .1 .1 .0
+same-length-2 c = put-of (send-of c) .put .kept .1 .1 .1 .1 .1 .0
 
 same-length-3 : tie.Need-same-length-3
-same-length-3 c = c .before .before .before .before .before .before .before .before .send .kept .1 .1 .1 .1 .1 .1 .1 .0
+same-length-3 c = send-of c .send .kept .1 .1 .1 .1 .1 .1 .1 .0
 
 same-length-4 : tie.Need-same-length-4
-same-length-4 c = c .before .before .before .before .before .before .before .before .send .kept .1 .1 .1 .1 .1 .1 .1 .1 .0 ∙ c .before .before .before .before .before .before .before .before .before .before .before .before .before .before .before .before .before .before .before .before .put .kept .1 .1 .1 .1 .1 .1 .1 .0
+same-length-4 c = send-of c .send .kept .1 .1 .1 .1 .1 .1 .1 .1 .0 ∙ put-of (send-of c) .put .kept .1 .1 .1 .1 .1 .1 .1 .0
 
 same-length-5 : tie.Need-same-length-5
-same-length-5 c = c .before .before .before .before .before .before .before .before .send .kept .1 .1 .1 .1 .1 .1 .1 .1 .1 .0
+same-length-5 c = send-of c .send .kept .1 .1 .1 .1 .1 .1 .1 .1 .1 .0
 
 same-length-6 : tie.Need-same-length-6
-same-length-6 c = c .before .before .before .before .before .before .before .before .before .before .before .before .before .before .before .before .before .before .before .before .put .kept .1 .1 .1 .1 .1 .1 .0
+same-length-6 c = put-of (send-of c) .put .kept .1 .1 .1 .1 .1 .1 .0
 
 returns : tie.Need-returns
 returns c =
-    let at-send = c .before .before .before .before .before .before .before .before in
-    let at-put = at-send .before .before .before .before .before .before .before .before .before .before .before .before in
-    let at-start = at-put .before .before .before .before .before .before .before .before .before .before .before .before .before .before in
-    let written = of-pair (at-start .args .pair) (at-put .put .ensures) (omega arith) (omega arith) (omega arith) in
-    together _ _ _ _ _ _ _ _ _ _ written _ _ _ _ _ _ _ _ _ _ _ _ _ (at-send .send .ensures) _ (c .skip .ensures)
+    let at-put = put-of (send-of c) in
+    let noted = at-put .put .ensures in
+    together (start-of at-put .pre) (noted .1 .1 .1) (noted .0) (noted .1 .0) (noted .1 .1 .0) (send-of c .send .ensures) (c .skip .ensures)
 
 pub place-spec : {M : Type 1} → statement M
 place-spec =

@@ -9,7 +9,6 @@ use lib.ListN.{length, getD, set, length-set}
 use lib.Seq.{getD-set-same, getD-set-other}
 use Rattle.base.specs.Laws.Tests.{lt-or-ge}
 use Rattle.schedule.specs.Pass.{Raised}
-use Rattle.schedule.specs.Laws.Given.{message-most}
 use Rattle.schedule.proofs.planner.raise.Statement.{statement}
 use Rattle.schedule.proofs.planner.raise.Tie as tie
 
@@ -27,7 +26,8 @@ module _ (p T finish count : ℕ) (row before now : List ℕ) (r : Raised p T fi
     right-of = λ x h. same x (λ k. omega arith) ∙ r .right-of x (omega arith);
   }
     where
-      go : (P : ℕ) → (P < p) ⊎ (p ≤ P) → P < p + 1 → getD after (16 * T + P) 0 ≡ max (getD before (16 * T + P) 0) (finish + count * getD row P 0)
+      go : (P : ℕ) → (P < p) ⊎ (p ≤ P) → P < p + 1
+          → getD after (16 * T + P) 0 ≡ max (getD before (16 * T + P) 0) (finish + count * getD row P 0)
       go P (inl k) h = same (16 * T + P) (λ q. omega arith) ∙ r .in-row P k
       go P (inr k) h = let q : P ≡ p = omega arith in rw (q, e, r .right-of (16 * T + p) (omega arith))
 
@@ -63,13 +63,14 @@ shared-slice-read-arrival c = search needs
 
 mul-arrival-2 : tie.Need-mul-arrival-2 Inv-loop μ-loop
 mul-arrival-2 c =
-    let pre = c .before .before .before .pre .1 in
-    record { fits = omega (arith, message-most _ _ _ refl (pre .1) (pre .2 (c .before .before .loop .p))) }
+    let near = c .before .before .before .pre .1 .1 in
+    record { fits = omega (arith, near (c .before .before .loop .p)) }
 
 add-arrival : tie.Need-add-arrival Inv-loop μ-loop
 add-arrival c =
-    let pre = c .before .before .before .pre .1 in
-    record { fits = omega (arith, pre .0, message-most _ _ _ refl (pre .1) (pre .2 (c .before .before .loop .p))) }
+    let in-time = c .before .before .before .pre .1 .0 in
+    let near = c .before .before .before .pre .1 .1 in
+    record { fits = omega (arith, in-time, near (c .before .before .loop .p)) }
 
 mul-if1 : tie.Need-mul-if1 Inv-loop μ-loop
 mul-if1 c = search needs

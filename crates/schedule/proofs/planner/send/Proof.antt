@@ -1,4 +1,5 @@
--- `planner::send`: before edge k what was sent is what the edges `first` to before k send; each turn adds one edge, which changes the task that it goes to alone.
+-- `planner::send`: before edge k what was sent is what the edges `first` to before k send; each turn adds one edge, which changes the task
+-- that it goes to alone.
 use mathlib.Core.Path.{_≡_, refl, sym, _∙_}
 use mathlib.Core.Logic.{_⊎_, inl, inr, ⊎-elim}
 use mathlib.Core.List.{List}
@@ -11,16 +12,17 @@ use Rattle.base.specs.Choice.{pick}
 use Rattle.base.specs.Rows.{sum, one-if, most}
 use Rattle.base.specs.Laws.Tests.{same-or-not}
 use Rattle.base.specs.Laws.Sums.{sum-grows}
-use Rattle.schedule.specs.Pass.{sentTo, Raised, Sent}
-use Rattle.schedule.specs.Laws.Lifted.{Lifted, lifted, unlifted}
-use Rattle.schedule.specs.Laws.Sending.{most-unsent, sum-unsent, most-sent, most-kept, sum-sent, sum-kept, unraised}
+use Rattle.etf.specs.Bounds.{mostMessageTime}
+use Rattle.schedule.specs.Pass.{sentTo, Raised, ToSend, Sent, Inbox, inbox}
+use Rattle.schedule.specs.Laws.Rows.Lifted.{Lifted, lifted, unlifted}
+use Rattle.schedule.specs.Laws.Planner.Sending.{most-unsent, sum-unsent, most-sent, most-kept, sum-sent, sum-kept, unraised}
 use Rattle.schedule.proofs.planner.send.Statement.{statement}
 use Rattle.schedule.proofs.planner.send.Tie as tie
 
 module _ (first finish n : ℕ) (row to counts : List ℕ) where
   -- nothing is sent yet
-  begun : (arrivals waiting latest : List ℕ) → Sent first first finish n row to counts arrivals arrivals waiting waiting latest latest
-  begun arrivals waiting latest = record {
+  begun : (B : Inbox) → Sent first first finish n row to counts B B
+  begun B = record {
     arrivals-at = λ T P h. omega (arith, most-unsent to first T (λ i. finish + getD counts i 0 * getD row P 0));
     arrivals-spare = λ T P h k. refl;
     waiting-at = λ T. omega (arith, sum-unsent to first T);
@@ -31,20 +33,23 @@ module _ (first finish n : ℕ) (row to counts : List ℕ) where
   module _ (k t : ℕ) (e : t ≡ getD to k 0) (h : first ≤ k) where
     -- the arrivals
     module _ (arrivals now after : List ℕ) (r : Raised n t finish (getD counts k 0) row now after) (few : n ≤ 16) where
-      arrive : (T P : ℕ) → P < n
-          → getD now (16 * T + P) 0 ≡ max (getD arrivals (16 * T + P) 0) (most k (λ i. pick (sentTo to first T i) (finish + getD counts i 0 * getD row P 0) 0))
-          → getD after (16 * T + P) 0 ≡ max (getD arrivals (16 * T + P) 0) (most (k + 1) (λ i. pick (sentTo to first T i) (finish + getD counts i 0 * getD row P 0) 0))
+      -- when the messages of an edge are at P, of those that go to T
+      abbrev sent : ℕ → ℕ → ℕ → ℕ
+      sent T P i = pick (sentTo to first T i) (finish + getD counts i 0 * getD row P 0) 0
+
+      arrive : (T P : ℕ) → P < n → getD now (16 * T + P) 0 ≡ max (getD arrivals (16 * T + P) 0) (most k (sent T P))
+          → getD after (16 * T + P) 0 ≡ max (getD arrivals (16 * T + P) 0) (most (k + 1) (sent T P))
       arrive T P p s = go (same-or-not t T)
         where
-          go : (t ≡ T) ⊎ (t ≡ T → ⊥)
-              → getD after (16 * T + P) 0 ≡ max (getD arrivals (16 * T + P) 0) (most (k + 1) (λ i. pick (sentTo to first T i) (finish + getD counts i 0 * getD row P 0) 0))
+          go : (t ≡ T) ⊎ (t ≡ T → ⊥) → getD after (16 * T + P) 0 ≡ max (getD arrivals (16 * T + P) 0) (most (k + 1) (sent T P))
           go (inl q) =
               omega (arith, s, rw q at (r .in-row P p), most-sent to first T k h (λ i. finish + getD counts i 0 * getD row P 0) (sym e ∙ q))
           go (inr q) =
               let u = unraised n t finish (getD counts k 0) row now after r few T P (omega arith) q in
               omega (arith, s, u, most-kept to first T k (λ i. finish + getD counts i 0 * getD row P 0) (λ z. q (e ∙ z)))
 
-      spare : (T P : ℕ) → n ≤ P → P < 16 → getD now (16 * T + P) 0 ≡ getD arrivals (16 * T + P) 0 → getD after (16 * T + P) 0 ≡ getD arrivals (16 * T + P) 0
+      spare : (T P : ℕ) → n ≤ P → P < 16 → getD now (16 * T + P) 0 ≡ getD arrivals (16 * T + P) 0
+          → getD after (16 * T + P) 0 ≡ getD arrivals (16 * T + P) 0
       spare T P p l s = go (same-or-not t T)
         where
           go : (t ≡ T) ⊎ (t ≡ T → ⊥) → getD after (16 * T + P) 0 ≡ getD arrivals (16 * T + P) 0
@@ -52,16 +57,19 @@ module _ (first finish n : ℕ) (row to counts : List ℕ) where
           go (inr q) = unraised n t finish (getD counts k 0) row now after r few T P l q ∙ s
 
     -- the waiting counts: the task waits still, where no task is sent more than it waits for
-    waits : (last : ℕ) (arrivals arrivals₁ waiting waiting₁ latest latest₁ : List ℕ) → Sent first k finish n row to counts arrivals arrivals₁ waiting waiting₁ latest latest₁
-        → ((T : ℕ) → sum last (λ i. one-if (sentTo to first T i)) ≤ getD waiting T 0) → k < last → 1 ≤ getD waiting₁ t 0
-    waits last arrivals arrivals₁ waiting waiting₁ latest latest₁ s m l =
-        omega (arith, m t, s .waiting-at t, sum-sent to first t k h (sym e), sum-grows (λ i. one-if (sentTo to first t i)) (k + 1) last (omega arith))
+    waits : (last : ℕ) (B B₁ : Inbox) → Sent first k finish n row to counts B B₁
+        → ((T : ℕ) → sum last (λ i. one-if (sentTo to first T i)) ≤ getD (B .waiting) T 0) → k < last → 1 ≤ getD (B₁ .waiting) t 0
+    waits last B B₁ s m l =
+        let grows = sum-grows (λ i. one-if (sentTo to first t i)) (k + 1) last (omega arith) in
+        omega (arith, m t, s .waiting-at t, sum-sent to first t k h (sym e), grows)
 
-    wait : (waiting now : List ℕ) → t < length now → 1 ≤ getD now t 0 → (T : ℕ) → getD now T 0 + sum k (λ i. one-if (sentTo to first T i)) ≡ getD waiting T 0
+    wait : (waiting now : List ℕ) → t < length now → 1 ≤ getD now t 0
+        → (T : ℕ) → getD now T 0 + sum k (λ i. one-if (sentTo to first T i)) ≡ getD waiting T 0
         → getD (set now t (getD now t 0 - 1)) T 0 + sum (k + 1) (λ i. one-if (sentTo to first T i)) ≡ getD waiting T 0
     wait waiting now l w T s = go (same-or-not t T)
       where
-        go : (t ≡ T) ⊎ (t ≡ T → ⊥) → getD (set now t (getD now t 0 - 1)) T 0 + sum (k + 1) (λ i. one-if (sentTo to first T i)) ≡ getD waiting T 0
+        go : (t ≡ T) ⊎ (t ≡ T → ⊥)
+            → getD (set now t (getD now t 0 - 1)) T 0 + sum (k + 1) (λ i. one-if (sentTo to first T i)) ≡ getD waiting T 0
         go (inl q) =
             let less = getD-set-same now t (getD now t 0 - 1) 0 l in
             rw (← q) (omega (arith, less, rw (← q) at s, sum-sent to first t k h (sym e)))
@@ -69,7 +77,8 @@ module _ (first finish n : ℕ) (row to counts : List ℕ) where
             omega (arith, s, getD-set-other now t T (getD now t 0 - 1) 0 (λ z. q (sym z)), sum-kept to first T k (λ z. q (e ∙ z)))
 
     -- the latest finishes
-    late : (latest now after : List ℕ) → getD after t 0 ≡ max (getD now t 0) finish → ((T : ℕ) → (T ≡ t → ⊥) → getD after T 0 ≡ getD now T 0)
+    late : (latest now after : List ℕ) → getD after t 0 ≡ max (getD now t 0) finish
+        → ((T : ℕ) → (T ≡ t → ⊥) → getD after T 0 ≡ getD now T 0)
         → (T : ℕ) → getD now T 0 ≡ max (getD latest T 0) (most k (λ i. pick (sentTo to first T i) finish 0))
         → getD after T 0 ≡ max (getD latest T 0) (most (k + 1) (λ i. pick (sentTo to first T i) finish 0))
     late latest now after w same T s = go (same-or-not t T)
@@ -79,27 +88,52 @@ module _ (first finish n : ℕ) (row to counts : List ℕ) where
         go (inr q) = omega (arith, s, same T (λ z. q (sym z)), most-kept to first T k (λ i. finish) (λ z. q (e ∙ z)))
 
     -- all three
-    turn : (count : ℕ) (arrivals arrivals₁ arrivals₂ waiting waiting₁ latest latest₁ latest₂ : List ℕ) → count ≡ getD counts k 0
-        → Sent first k finish n row to counts arrivals arrivals₁ waiting waiting₁ latest latest₁ → Raised n t finish count row arrivals₁ arrivals₂ → Lifted t finish latest₁ latest₂
-        → n ≤ 16 → t < length waiting₁ → 1 ≤ getD waiting₁ t 0
-        → Sent first (k + 1) finish n row to counts arrivals arrivals₂ waiting (set waiting₁ t (getD waiting₁ t 0 - 1)) latest latest₂
-    turn count arrivals arrivals₁ arrivals₂ waiting waiting₁ latest latest₁ latest₂ d s r m few l w = record {
-      arrivals-at = λ T P p. arrive arrivals arrivals₁ arrivals₂ (rw d at r) few T P p (s .arrivals-at T P p);
-      arrivals-spare = λ T P p q. spare arrivals arrivals₁ arrivals₂ (rw d at r) few T P p q (s .arrivals-spare T P p q);
-      waiting-at = λ T. wait waiting waiting₁ l w T (s .waiting-at T);
-      latest-at = λ T. late latest latest₁ latest₂ (m .here) (m .elsewhere) T (s .latest-at T);
+    turn : (count : ℕ) (B B₁ : Inbox) (arrivals₂ latest₂ : List ℕ) → count ≡ getD counts k 0 → Sent first k finish n row to counts B B₁
+        → Raised n t finish count row (B₁ .arrivals) arrivals₂ → Lifted t finish (B₁ .latest) latest₂
+        → n ≤ 16 → t < length (B₁ .waiting) → 1 ≤ getD (B₁ .waiting) t 0
+        → Sent first (k + 1) finish n row to counts B (inbox arrivals₂ (set (B₁ .waiting) t (getD (B₁ .waiting) t 0 - 1)) latest₂)
+    turn count B B₁ arrivals₂ latest₂ d s r m few l w = record {
+      arrivals-at = λ T P p. arrive (B .arrivals) (B₁ .arrivals) arrivals₂ (rw d at r) few T P p (s .arrivals-at T P p);
+      arrivals-spare = λ T P p q. spare (B .arrivals) (B₁ .arrivals) arrivals₂ (rw d at r) few T P p q (s .arrivals-spare T P p q);
+      waiting-at = λ T. wait (B .waiting) (B₁ .waiting) l w T (s .waiting-at T);
+      latest-at = λ T. late (B .latest) (B₁ .latest) latest₂ (m .here) (m .elsewhere) T (s .latest-at T);
     }
+
+-- the lengths stay, and what was sent along the edges before edge k has been sent
+record Going (first last finish n : ℕ) (row to counts : List ℕ) (B B₁ : Inbox) (k : ℕ) : Type 0 where
+  from-first : first ≤ k
+  to-last : k ≤ last
+  arrivals-size : length (B₁ .arrivals) ≡ length (B .arrivals)
+  waiting-size : length (B₁ .waiting) ≡ length (B .waiting)
+  latest-size : length (B₁ .latest) ≡ length (B .latest)
+  sent : Sent first k finish n row to counts B B₁
 
 abbrev Inv-loop : tie.InvT-loop
 Inv-loop first last finish processors row to counts arrivals₀ waiting₀ latest₀ k₀ arrivals waiting latest k =
-    (first ≤ k) × (k ≤ last) × (length arrivals ≡ length arrivals₀) × (length waiting ≡ length waiting₀) × (length latest ≡ length latest₀)
-    × Sent first k finish processors row to counts arrivals₀ arrivals waiting₀ waiting latest₀ latest
+    Going first last finish processors row to counts (inbox arrivals₀ waiting₀ latest₀) (inbox arrivals waiting latest) k
 
 abbrev μ-loop : tie.MeasureT-loop
 μ-loop first last finish processors row to counts arrivals₀ waiting₀ latest₀ k₀ arrivals waiting latest k = last - k
 
+-- what was asked, at the loop
+module _ (a : tie.At-loop Inv-loop μ-loop) where
+  abbrev start : tie.Start Inv-loop μ-loop
+  start = a .before .before .before .before .before .before .before
+
+  abbrev asked : ToSend (start .args .first) (start .args .last) (start .args .finish) (start .args .n) (start .args .row .now)
+      (start .args .to .now) (start .args .counts .now)
+      (inbox (start .args .arrivals .now) (start .args .waiting .now) (start .args .latest .now))
+  asked = start .pre
+
 loop-holds : tie.Need-loop-holds Inv-loop μ-loop
-loop-holds c = (search needs, search needs, refl, refl, refl, begun _ _ _ _ _ _ _ _ _)
+loop-holds c = record {
+  from-first = search needs;
+  to-last = search needs;
+  arrivals-size = refl;
+  waiting-size = refl;
+  latest-size = refl;
+  sent = begun _ _ _ _ _ _ _;
+}
 
 shared-slice-read-index : tie.Need-shared-slice-read-index Inv-loop μ-loop
 shared-slice-read-index c = search needs
@@ -119,9 +153,9 @@ wide16-requires c κs = search needs
 raise-requires : tie.Need-raise-requires Inv-loop μ-loop
 raise-requires c κs =
     let at-loop = c .before .before .before .before .before .before in
-    let pre = at-loop .before .before .before .before .before .before .before .pre in
-    let few : c .wide16 .result ≤ 1000 = omega (arith, c .wide16 .ensures, pre .1 .1 .0 .1 (at-loop .loop .k) (search needs)) in
-    ((search needs, search needs, search needs, search needs), (search needs, few, pre .1 .1 .0 .0))
+    let near : (P : ℕ) → c .wide16 .result * getD (start at-loop .args .row .now) P 0 ≤ mostMessageTime =
+    λ P. rw (c .wide16 .ensures) (asked at-loop .near (at-loop .loop .k) P (search needs)) in
+    ((search needs, search needs, search needs, asked at-loop .row-size), (asked at-loop .in-time, near))
 
 mul-if1 : tie.Need-mul-if1 Inv-loop μ-loop
 mul-if1 c = search needs
@@ -146,8 +180,7 @@ sub-waiting c =
     let at-index = c .before .before .before .before .before .before .before .before .before in
     let at-loop = at-index .before .before .before in
     let v = at-loop .loop .inv in
-    let pre = at-loop .before .before .before .before .before .before .before .pre in
-    waits _ _ _ _ _ _ _ _ (at-index .index .ensures .0) (v .0) _ _ _ _ _ _ _ (v .5) (pre .1 .1 .1) (search needs)
+    waits _ _ _ _ _ _ _ _ (at-index .index .ensures .0) (v .from-first) _ _ _ (v .sent) (asked at-loop .enough) (search needs)
 
 mul-waiting-2 : tie.Need-mul-waiting-2 Inv-loop μ-loop
 mul-waiting-2 c = search needs
@@ -166,21 +199,22 @@ loop-again c =
     let at-raise = c .before .before .before .before .before in
     let at-index = at-raise .before .before .before .before in
     let at-loop = at-index .before .before .before in
-    let pre = at-loop .before .before .before .before .before .before .before .pre in
     let t = at-index .index .ensures in
     let v = at-loop .loop .inv in
     let m = ⊎-elim
-    (λ w. lifted _ _ _ _ (w .0 .taken) (w .1) (omega (arith, t .1, v .4, pre .1 .0 .2)))
+    (λ w. lifted _ _ _ _ (w .0 .taken) (w .1) (omega (arith, t .1, v .latest-size, asked at-loop .latest-size)))
     (λ w. unlifted _ _ _ _ (w .0 .left) (w .1))
-    (c .before .if1 .came) in (
-      search needs,
-      search needs,
-      at-raise .raise .kept .0 ∙ v .2,
-      search needs,
-      m .size ∙ v .4,
-      turn _ _ _ _ _ _ _ _ (t .0) (v .0) _ _ _ _ _ _ _ _ _ (at-raise .before .wide16 .ensures) (v .5) (at-raise .raise .ensures) m
-          (pre .0 .3) (omega (arith, t .1, v .3, pre .1 .0 .1)) (sub-waiting c),
-    )
+    (c .before .if1 .came) in
+    record {
+      from-first = omega (arith, v .from-first);
+      to-last = search needs;
+      arrivals-size = at-raise .raise .kept .0 ∙ v .arrivals-size;
+      waiting-size = search needs;
+      latest-size = m .size ∙ v .latest-size;
+      sent = turn _ _ _ _ _ _ _ _ (t .0) (v .from-first) _ _ _ _ _
+          (at-raise .before .wide16 .ensures) (v .sent) (at-raise .raise .ensures) m
+          (asked at-loop .few-processors) (omega (arith, t .1, v .waiting-size, asked at-loop .waiting-size)) (sub-waiting c);
+    }
 
 same-length : tie.Need-same-length Inv-loop μ-loop
 same-length c = search needs
@@ -194,7 +228,7 @@ same-length-3 c = search needs
 returns : tie.Need-returns Inv-loop μ-loop
 returns c =
     let e : c .before .loop .k ≡ c .before .before .before .before .before .before .before .before .args .last = omega arith in
-    rw e at (c .before .loop .inv .5)
+    rw e at (c .before .loop .inv .sent)
 
 pub send-spec : {M : Type 1} → statement M
 send-spec =

@@ -24,15 +24,15 @@ module _ (waiting : List ℕ) (low t : ℕ) (M : Marked waiting low t) where
       go (inl r) = let d : T ≡ t = omega arith in rw d e
       go (inr r) = M T p r
 
-  stop : (m : ℕ) → low ≤ t → t < m → (getD waiting t 0 ≡ placedMark → ⊥) → Skipped waiting low m t
+  stop : (m : ℕ) → low ≤ t → t < m → (getD waiting t 0 ≡ placedMark → ⊥) → Skipped waiting (λ i. i) low m t
   unfolding Marked
-  stop m a b n = record { from-low = a; to-most = omega arith; marked = M; unmarked = λ _. n }
+  stop m a b n = record { from-low = a; to-most = omega arith; passed = M; left = λ _. n }
 
-  none : (m : ℕ) → low ≤ t → t ≤ m → m ≤ t → Skipped waiting low m m
+  none : (m : ℕ) → low ≤ t → t ≤ m → m ≤ t → Skipped waiting (λ i. i) low m m
   unfolding Marked
   none m a b h =
       let e : t ≡ m = omega arith in
-      record { from-low = omega arith; to-most = omega arith; marked = λ T p q. M T p (omega arith); unmarked = λ z. absurd (omega arith) }
+      record { from-low = omega arith; to-most = omega arith; passed = λ T p q. M T p (omega arith); left = λ z. absurd (omega arith) }
 
 abbrev Inv-loop : tie.InvT-loop
 Inv-loop waiting low tasks t₀ t = (low ≤ t) × (t ≤ tasks) × (tasks ≤ length waiting) × Marked waiting low t

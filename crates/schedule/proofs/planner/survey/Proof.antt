@@ -53,7 +53,9 @@ begun busy n clock free h = record { few = omega arith; fewer = omega arith; roo
 
 module _ (busy : List ℕ) (n clock : ℕ) (free : List ℕ) (next count p : ℕ) (g : Going busy n clock free next count p) where
   done : n ≤ p → Surveyed busy n clock free (record { next = next; free = count })
-  done h = let e : p ≡ n = omega (arith, g .few) in record { next = rw e at (g .soon); few = omega (arith, g .few, g .fewer); listed = rw e at (g .listed) }
+  done h =
+      let e : p ≡ n = omega (arith, g .few) in
+      record { next = rw e at (g .soon); few = omega (arith, g .few, g .fewer); listed = rw e at (g .listed) }
 
   module _ (h : p < n) (few : n ≤ 16) where
     idle : getD busy p 0 ≤ clock → Going busy n clock (set free count p) next (count + 1) (p + 1)
@@ -63,9 +65,11 @@ module _ (busy : List ℕ) (n clock : ℕ) (free : List ℕ) (next count p : ℕ
       room = length-set free count p ∙ g .room;
       soon = g .soon ∙ sym (soonest-same busy clock p k);
       listed =
+          let kept = values-same (λ i. getD (set free count p) i 0) (λ i. getD free i 0) 0 count
+          (λ i a b. getD-set-other free count i p 0 (λ e. omega arith)) in
+          let new = getD-set-same free count p 0 (omega (arith, g .room, g .fewer)) in
           values-more (λ i. getD (set free count p) i 0) count
-          ∙ rw (values-same (λ i. getD (set free count p) i 0) (λ i. getD free i 0) 0 count (λ i a b. getD-set-other free count i p 0 (λ e. omega arith)), getD-set-same free count p 0 (omega (arith, g .room, g .fewer)), g .listed)
-          (sym (free-more busy clock p k));
+          ∙ rw (kept, new, g .listed) (sym (free-more busy clock p k));
     }
 
     sooner : clock < getD busy p 0 → getD busy p 0 < next → Going busy n clock free (getD busy p 0) count (p + 1)

@@ -1,4 +1,5 @@
--- `planner::try_task`: the loop keeps that the best so far, tried against the processors that are left, gives the answer; nothing left beats a pair that starts at the clock.
+-- `planner::try_task`: the loop keeps that the best so far, tried against the processors that are left, gives the answer.
+-- Nothing that is left beats a pair that starts at the clock.
 use mathlib.Core.Path.{_≡_, refl, ap, sym, _∙_}
 use mathlib.Core.Logic.{⊎-elim}
 use mathlib.Core.List.{List}
@@ -15,7 +16,7 @@ use Rattle.base.specs.Lists.{values}
 use Rattle.base.specs.Laws.Values.{for-values, values-front, values-none}
 use Rattle.schedule.specs.declared.planner.Pair.{Pair}
 use Rattle.schedule.specs.Pass.{pairAt, firstBest, rowOf}
-use Rattle.schedule.specs.Laws.Tried.{firstBest-stays}
+use Rattle.schedule.specs.Laws.Planner.SearchSteps.{firstBest-stays}
 use Rattle.schedule.proofs.planner.try_task.Statement.{statement}
 use Rattle.schedule.proofs.planner.try_task.Tie as tie
 
@@ -36,13 +37,17 @@ module _ (clock : ℕ) (arrivals free : List ℕ) (count task : ℕ) where
   ended b i h = rw (values-none (λ j. pairAt clock arrivals task (getD free j 0)) i count h)
 
   module _ (i p : ℕ) (pi : p ≡ getD free i 0) (h : i < count) where
-    at-clock : getD arrivals (16 * task + p) 0 ≤ clock → pairAt clock arrivals task (getD free i 0) ≡ pair clock task p
-    unfolding pairAt
-    at-clock k = let e : max clock (getD arrivals (16 * task + p) 0) ≡ clock = omega arith in rw (← pi, e)
+    -- when what the task waits for is at processor p
+    abbrev arrival : ℕ
+    arrival = getD arrivals (16 * task + p) 0
 
-    after-clock : clock < getD arrivals (16 * task + p) 0 → pairAt clock arrivals task (getD free i 0) ≡ pair (getD arrivals (16 * task + p) 0) task p
+    at-clock : arrival ≤ clock → pairAt clock arrivals task (getD free i 0) ≡ pair clock task p
     unfolding pairAt
-    after-clock k = let e : max clock (getD arrivals (16 * task + p) 0) ≡ getD arrivals (16 * task + p) 0 = omega arith in rw (← pi, e)
+    at-clock k = let e : max clock arrival ≡ clock = omega arith in rw (← pi, e)
+
+    after-clock : clock < arrival → pairAt clock arrivals task (getD free i 0) ≡ pair arrival task p
+    unfolding pairAt
+    after-clock k = let e : max clock arrival ≡ arrival = omega arith in rw (← pi, e)
 
     -- one pair, and the others
     next : (b x : Pair) → pairAt clock arrivals task (getD free i 0) ≡ x →
@@ -50,24 +55,28 @@ module _ (clock : ℕ) (arrivals free : List ℕ) (count task : ℕ) where
     unfolding rest firstBest
     next b x e = rw (values-front (λ j. pairAt clock arrivals task (getD free j 0)) i count h, add-one, e)
 
-    early : (b : Pair) → clock < b .start → getD arrivals (16 * task + p) 0 ≤ clock → firstBest b (rest i) ≡ pair clock task p
+    early : (b : Pair) → clock < b .start → arrival ≤ clock → firstBest b (rest i) ≡ pair clock task p
     unfolding rest pairAt
     early b l k =
         next b _ (at-clock k) ∙ rw (lt-ltb clock (b .start) l)
-        (firstBest-stays (pair clock task p) (rest (i + 1)) (for-values (λ j. pairAt clock arrivals task (getD free j 0)) (λ x. clock ≤ x .start) (i + 1) (count - (i + 1)) (λ n u v. omega arith)))
+        (firstBest-stays (pair clock task p) (rest (i + 1))
+        (for-values (λ j. pairAt clock arrivals task (getD free j 0)) (λ x. clock ≤ x .start) (i + 1) (count - (i + 1))
+        (λ n u v. omega arith)))
 
     -- a turn: with the best so far b, and the answer r
-    module _ (b b′ r : Pair) (l : clock < b .start) (e : firstBest b (rest i) ≡ r) (k : clock < getD arrivals (16 * task + p) 0) where
-      sooner : getD arrivals (16 * task + p) 0 < b .start → b′ ≡ pair (getD arrivals (16 * task + p) 0) task p →
-          (i + 1 ≤ count) × (clock < b′ .start) × (firstBest b′ (rest (i + 1)) ≡ r)
-      sooner s q = rw q (omega arith, k, rw (next b _ (after-clock k), lt-ltb (getD arrivals (16 * task + p) 0) (b .start) s) at e)
+    module _ (b b′ r : Pair) (l : clock < b .start) (e : firstBest b (rest i) ≡ r) (k : clock < arrival) where
+      sooner : arrival < b .start → b′ ≡ pair arrival task p
+          → (i + 1 ≤ count) × (clock < b′ .start) × (firstBest b′ (rest (i + 1)) ≡ r)
+      sooner s q = rw q (omega arith, k, rw (next b _ (after-clock k), lt-ltb arrival (b .start) s) at e)
 
-      later : b .start ≤ getD arrivals (16 * task + p) 0 → b′ ≡ b → (i + 1 ≤ count) × (clock < b′ .start) × (firstBest b′ (rest (i + 1)) ≡ r)
-      later s q = rw q (omega arith, l, rw (next b _ (after-clock k), le-ltb (getD arrivals (16 * task + p) 0) (b .start) s) at e)
+      later : b .start ≤ arrival → b′ ≡ b
+          → (i + 1 ≤ count) × (clock < b′ .start) × (firstBest b′ (rest (i + 1)) ≡ r)
+      later s q = rw q (omega arith, l, rw (next b _ (after-clock k), le-ltb arrival (b .start) s) at e)
 
 abbrev Inv-loop : tie.InvT-loop
 Inv-loop task clock arrivals free count best₀ i₀ best i =
-    (i ≤ count) × (clock < best .start) × (firstBest best (rest clock arrivals free count task i) ≡ firstBest best₀ (rowOf clock arrivals free count task))
+    (i ≤ count) × (clock < best .start)
+    × (firstBest best (rest clock arrivals free count task i) ≡ firstBest best₀ (rowOf clock arrivals free count task))
 
 abbrev μ-loop : tie.MeasureT-loop
 μ-loop task clock arrivals free count best₀ i₀ best i = count - i
@@ -85,13 +94,22 @@ mul-arrival : tie.Need-mul-arrival Inv-loop μ-loop
 mul-arrival c = search needs
 
 add-arrival : tie.Need-add-arrival Inv-loop μ-loop
-add-arrival c = let b = c .before .before .before .pre .1 .0 (c .before .before .loop .i) (search needs) in search needs
+add-arrival c =
+    let at-loop = c .before .before in
+    let b = at-loop .before .pre .1 .0 (at-loop .loop .i) (search needs) in
+    search needs
 
 mul-arrival-2 : tie.Need-mul-arrival-2 Inv-loop μ-loop
-mul-arrival-2 c = let b = c .before .before .before .pre .1 .0 (c .before .before .loop .i) (search needs) in search needs
+mul-arrival-2 c =
+    let at-loop = c .before .before in
+    let b = at-loop .before .pre .1 .0 (at-loop .loop .i) (search needs) in
+    search needs
 
 shared-slice-read-arrival : tie.Need-shared-slice-read-arrival Inv-loop μ-loop
-shared-slice-read-arrival c = let b = c .before .before .before .before .pre .1 .0 (c .before .before .before .loop .i) (search needs) in search needs
+shared-slice-read-arrival c =
+    let at-loop = c .before .before .before in
+    let b = at-loop .before .pre .1 .0 (at-loop .loop .i) (search needs) in
+    search needs
 
 returns : tie.Need-returns Inv-loop μ-loop
 returns c =

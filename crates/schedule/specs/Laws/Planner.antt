@@ -1,0 +1,10 @@
+pub mod Simulation
+pub mod Invariant
+pub mod Round
+pub mod Placing
+pub mod StartAndEnd
+pub mod ReadOff
+pub mod Search
+pub mod SearchSteps
+pub mod Sending
+pub mod EdgesOfTask

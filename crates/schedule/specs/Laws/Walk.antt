@@ -1,0 +1,7 @@
+pub mod Stretches
+pub mod ShortTicks
+pub mod MovesByEdge
+pub mod LatestEdge
+pub mod Along
+pub mod CoverFound
+pub mod DearestChain
