@@ -1,4 +1,5 @@
--- The calls from C on inputs of document 01: its case A, and the small inputs of the refusal table for 9 to 13, held to the definitions by computing them.
+-- The calls from C on inputs of document 01, held to the definitions by computing them: its case A, and the small inputs of the refusal
+-- table for 9 to 13.
 use mathlib.Core.Option.{orElse, bind}
 use mathlib.Core.Path.{_≡_, refl}
 use mathlib.Core.List.{List, [], _∷_, _++_, flatMap}
@@ -11,15 +12,16 @@ use Rattle.job.specs.Record.{kindOf, bodyLength, platformIn, durationIn, edgeIn
 use Rattle.job.specs.Record.{countInRange, inRange, joins, rises, aboveLast, misfit, added}
 use Rattle.job.specs.Read.{after, judged, records, readJob}
 use Rattle.etf.specs.Instance.{duration, into, messageTime}
-use Rattle.etf.specs.Schedule.{placed, placementOf, messageTimeTo, arrival, end, scheduleOf}
-use Rattle.etf.specs.Topology.{hops, cost}
+use Rattle.etf.specs.Schedule.{placed, placementOf, messageTimeTo, arrival, lastFinish, end, scheduleOf}
+use Rattle.etf.specs.Topology.{hops, cost, square}
 use Rattle.etf.specs.Rule.{atMost, move, settle, nextMoment, free, finished, ready, pair, pairs, choice, complete, round, run, planned}
 use Rattle.etf.specs.Checker.{firstAnswer, misplaced, overlap, early, check}
-use Rattle.etf.specs.OfJob.{instance}
-use Rattle.schedule.specs.Plan.{startOf, processorOf}
+use Rattle.etf.specs.OfJob.{costsOf, instance}
+use Rattle.schedule.specs.Call.{startOf, processorOf}
 use Rattle.schedule.specs.Check.{checkOf, numberOf}
 use Rattle.schedule.specs.Cases.{rack-2, step, file-a, apart}
-use Rattle.kelvrist.specs.PlanBytes.{returned, taskBytes, planBytes, processorIn, startIn, planBytesFor, planBytesCall, checkBytesFor, checkBytesCall}
+use Rattle.kelvrist.specs.PlanBytes.{returned, taskBytes, planBytes, processorIn, startIn}
+use Rattle.kelvrist.specs.PlanBytes.{planBytesFor, planBytesCall, checkBytesFor, checkBytesCall}
 
 -- two steps of five ticks with a link of one message
 abbrev linked : List ℕ
@@ -35,7 +37,8 @@ pub cases-hold :
     (planBytesCall file-a (replicate 17 7) ≡ returned 0 (at 0 0 ++ (at 1 0 ++ (at 1 6 ++ (7 ∷ 7 ∷ [])))))
     × (planBytesCall file-a (replicate 14 7) ≡ returned 9 (replicate 14 7))
     × (planBytesCall (1 ∷ 2 ∷ 0 ∷ []) (replicate 17 7) ≡ returned 1 (replicate 17 7))
-    -- the checker from C: case A's own plan; 9, 10, 11 and the last start that is taken; 12 and finish equal to start; 13 and a message in time; the reader's number
+    -- the checker from C: case A's own plan; 9, 10, 11 and the last start that is taken; 12 and finish equal to start; 13 and a message
+    -- in time; the reader's number
     × (checkBytesCall file-a (at 0 0 ++ (at 1 0 ++ at 1 6)) ≡ 0)
     × (checkBytesCall apart (at 0 0 ++ (1 ∷ 0 ∷ 0 ∷ 0 ∷ [])) ≡ 9)
     × (checkBytesCall apart (at 0 0 ++ at 2 0) ≡ 10)
@@ -49,7 +52,7 @@ pub cases-hold :
 unfolding checkOf planBytesCall planBytesFor planBytes taskBytes bytes startOf processorOf checkBytesCall checkBytesFor numberOf
     processorIn startIn number readJob blank records judged after kindOf bodyLength stands noRack full inRange platformInRange
     durationInRange countInRange misfit joins aboveLast rises added platformIn durationIn edgeIn flatMap upto any all filter
-    greatest keep best duration into messageTime placed placementOf messageTimeTo arrival end scheduleOf hops cost atMost move settle
-    nextMoment free finished ready pair pairs choice complete round run planned firstAnswer misplaced overlap early check instance orElse
-    bind
+    greatest keep best duration into messageTime placed placementOf messageTimeTo arrival lastFinish end scheduleOf hops cost square
+    costsOf atMost move settle nextMoment free finished ready pair pairs choice complete round run planned firstAnswer misplaced overlap
+    early check instance orElse bind
 cases-hold = (refl, refl, refl, refl, refl, refl, refl, refl, refl, refl, refl, refl, refl)

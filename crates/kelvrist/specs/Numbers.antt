@@ -10,6 +10,7 @@ use lib.ListN.{length, getD, drop}
 use Rattle.base.specs.Choice.{pick}
 use Rattle.base.specs.Slices.{filled}
 use Rattle.base.specs.Laws.Filled.{filled-at}
+use Rattle.job.specs.Limits.{mostTasks}
 use Rattle.job.specs.Job.{Job}
 use Rattle.job.specs.Read.{Answer, accepted, refused, readJob}
 use Rattle.job.specs.Accepted.{accepted-job}
@@ -20,15 +21,17 @@ use Rattle.schedule.specs.declared.Planned.{Planned}
 use Rattle.schedule.specs.declared.Planned.the-variants.{Plan, Refused}
 use Rattle.schedule.specs.declared.Checked.{Checked}
 use Rattle.schedule.specs.declared.Checked.the-variants.{Yes, Refused as NotChecked}
-use Rattle.schedule.specs.Plan.{PlanCall, startOf, processorOf, planAccepted, planFor, planCall}
+use Rattle.schedule.specs.Call.{Call, startOf, processorOf, arrivalPlaces, laidOut, tooShort, callFor}
+use Rattle.schedule.specs.Plan.{outcome, planCall}
 use Rattle.schedule.specs.Check.{checkOf, checkedAs, numberOf, checkFor, checkCall}
-use Rattle.schedule.specs.Laws.Answer.{check-of-same}
-use Rattle.kelvrist.specs.PlanBytes.{BytesCall, returned, planBytes, processorIn, startIn, planBytesFor, planBytesCall, checkBytesFor, checkBytesCall}
+use Rattle.schedule.specs.Laws.Checker.Answer.{check-of-same}
+use Rattle.kelvrist.specs.PlanBytes.{BytesCall, returned, planBytes, processorIn, startIn}
+use Rattle.kelvrist.specs.PlanBytes.{planBytesFor, planBytesCall, checkBytesFor, checkBytesCall}
 use Rattle.kelvrist.specs.Laws.Encoded.{plan-bytes-same}
 
--- 01: "Each returns 0 or the refusal's number": of the planner's answer, m and the end or a refusal
+-- 01: "Each returns 0 or the refusal's number": of the planner's answer, an outcome or a refusal
 abbrev pub planNumber : Planned → ℕ
-planNumber (Plan m e) = 0
+planNumber (Plan o) = 0
 planNumber (Refused k) = k
 
 -- and of the checker's, a yes or a refusal
@@ -38,12 +41,12 @@ checkNumber (NotChecked k) = k
 
 -- the planner's answer with its starts and processors, as a call from C that is lent these bytes for the plan
 abbrev answerInBytes : Planned → List ℕ → List ℕ → List ℕ → BytesCall
-answerInBytes (Plan m e) starts processors plan =
-    pick (ltb (length plan) (5 * m)) (returned 9 plan)
-    (returned 0 (planBytes m (λ T. getD processors T 0) (λ T. getD starts T 0) ++ drop (5 * m) plan))
+answerInBytes (Plan o) starts processors plan =
+    pick (ltb (length plan) (5 * o .tasks)) (returned 9 plan)
+    (returned 0 (planBytes (o .tasks) (λ T. getD processors T 0) (λ T. getD starts T 0) ++ drop (5 * o .tasks) plan))
 answerInBytes (Refused k) starts processors plan = returned k plan
 
-abbrev pub inBytes : PlanCall → List ℕ → BytesCall
+abbrev pub inBytes : Call Planned → List ℕ → BytesCall
 inBytes c plan = answerInBytes (c .answer) (c .starts) (c .processors) plan
 
 -- what the checker says has one number
@@ -52,14 +55,17 @@ unfolding numberOf checkedAs
 same-number none = refl
 same-number (some k) = refl
 
--- over slices with places for 256 tasks the planner from C is the planner
-pub plan-in-bytes : (file plan starts processors scratch : List ℕ) → 256 ≤ length starts → 256 ≤ length processors → 4096 ≤ length scratch
+-- over slices with places for every job's tasks the planner from C is the planner
+pub plan-in-bytes : (file plan starts processors scratch : List ℕ)
+    → mostTasks ≤ length starts → mostTasks ≤ length processors → arrivalPlaces ≤ length scratch
     → planBytesCall file plan ≡ inBytes (planCall file starts processors scratch) plan
-unfolding planBytesCall planCall planBytesFor planFor planAccepted
+unfolding planBytesCall planCall planBytesFor callFor laidOut tooShort outcome
 plan-in-bytes file plan starts processors scratch a b c = go (readJob file) refl
   where
-    held : (j : Job) → tasks (instance j) ≤ 256
-        → planBytesFor (accepted j) plan ≡ inBytes (planFor (accepted j) starts processors scratch) plan
+    call : Answer → Call Planned
+    call x = callFor arrivalPlaces Refused (laidOut (λ I. Plan (outcome I))) x starts processors scratch
+
+    held : (j : Job) → tasks (instance j) ≤ mostTasks → planBytesFor (accepted j) plan ≡ inBytes (call (accepted j)) plan
     held j small =
         let I = instance j in
         let same = plan-bytes-same (tasks I) (λ T. getD (filled (processorOf I) (tasks I) processors) T 0) (processorOf I)
@@ -68,11 +74,12 @@ plan-in-bytes file plan starts processors scratch a b c = go (readJob file) refl
         simp (
           le-ltb (length starts) (tasks I) (omega arith),
           le-ltb (length processors) (tasks I) (omega arith),
-          le-ltb (length scratch) 4096 c,
+          le-ltb (length scratch) arrivalPlaces c,
         )
-        (ap (λ (l : List ℕ). pick (ltb (length plan) (5 * tasks I)) (returned 9 plan) (returned 0 (l ++ drop (5 * tasks I) plan))) (sym same))
+        (ap (λ (l : List ℕ). pick (ltb (length plan) (5 * tasks I)) (returned 9 plan) (returned 0 (l ++ drop (5 * tasks I) plan)))
+        (sym same))
 
-    go : (x : Answer) → readJob file ≡ x → planBytesFor x plan ≡ inBytes (planFor x starts processors scratch) plan
+    go : (x : Answer) → readJob file ≡ x → planBytesFor x plan ≡ inBytes (call x) plan
     go (accepted j) e = held j (few j (accepted-job file j e))
     go (refused k) e = refl
 

@@ -9,7 +9,7 @@ use Rattle.base.specs.Lists.{upto}
 use Rattle.job.specs.Read.{Answer, accepted, refused, readJob}
 use Rattle.etf.specs.Instance.{tasks}
 use Rattle.etf.specs.OfJob.{instance}
-use Rattle.schedule.specs.Plan.{startOf, processorOf}
+use Rattle.schedule.specs.Call.{startOf, processorOf}
 use Rattle.schedule.specs.Check.{checkOf, numberOf}
 
 -- what a call returns, 0 or the refusal's number, and the last content of the plan
@@ -47,7 +47,8 @@ planBytesFor (refused k) plan = returned k plan
 unfoldable pub planBytesCall : List ℕ → List ℕ → BytesCall
 planBytesCall file plan = planBytesFor (readJob file) plan
 
--- 01: "Each returns 0 or the refusal's number": 9 "if that is shorter than 5m", a refused job's own number, else what the checker says of the plan's first 5m bytes
+-- 01: "Each returns 0 or the refusal's number": 9 "if that is shorter than 5m", a refused job's own number, else what the checker says
+-- of the plan's first 5m bytes
 unfoldable pub checkBytesFor : Answer → List ℕ → ℕ
 checkBytesFor (accepted j) plan =
     pick (ltb (length plan) (5 * tasks (instance j))) 9 (numberOf (checkOf (instance j) (processorIn plan) (startIn plan)))

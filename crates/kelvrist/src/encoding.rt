@@ -21,7 +21,9 @@ fn put_task(plan: &mut [u8], at: usize, processor: u8, start: u32)
 // Writes the first `tasks` tasks.
 pub fn put(tasks: usize, starts: &[u32], processors: &[u8], plan: &mut [u8])
     requires { ⌜ (tasks ≤ length (now starts)) × (tasks ≤ length (now processors)) × (5 * tasks ≤ length (now plan)) ⌝ }
-    ensures { λ _. ⌜ now (plan .exit) ≡ planBytes tasks (λ T. getD (now (processors .entry)) T 0) (λ T. getD (now (starts .entry)) T 0) ++ drop (5 * tasks) (now (plan .entry)) ⌝ }
+    ensures { λ _. ⌜ now (plan .exit) ≡
+        planBytes tasks (λ T. getD (now (processors .entry)) T 0) (λ T. getD (now (starts .entry)) T 0)
+        ++ drop (5 * tasks) (now (plan .entry)) ⌝ }
 {
     let mut t: usize = 0;
     while t < tasks {
@@ -33,7 +35,9 @@ pub fn put(tasks: usize, starts: &[u32], processors: &[u8], plan: &mut [u8])
 // Reads the first `tasks` tasks.
 pub fn get(tasks: usize, plan: &[u8], starts: &mut [u32], processors: &mut [u8])
     requires { ⌜ (tasks ≤ length (now starts)) × (tasks ≤ length (now processors)) × (5 * tasks ≤ length (now plan)) ⌝ }
-    ensures { λ _. ⌜ ((T : ℕ) → T < tasks → (getD (now (starts .exit)) T 0 ≡ startIn (now (plan .entry)) T) × (getD (now (processors .exit)) T 0 ≡ processorIn (now (plan .entry)) T)) ⌝ }
+    ensures { λ _. ⌜ ((T : ℕ) → T < tasks →
+        (getD (now (starts .exit)) T 0 ≡ startIn (now (plan .entry)) T)
+        × (getD (now (processors .exit)) T 0 ≡ processorIn (now (plan .entry)) T)) ⌝ }
 {
     let mut t: usize = 0;
     while t < tasks {

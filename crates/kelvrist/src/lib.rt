@@ -14,7 +14,7 @@ fn plan_number(planned: Planned) -> u32
     ensures { λ r. ⌜ r ≡ planNumber planned ⌝ }
 {
     match planned {
-        Planned::Plan { tasks: _, end: _ } => 0,
+        Planned::Plan(_) => 0,
         Planned::Refused(number) => base::wide8(number),
     }
 }
@@ -46,9 +46,10 @@ pub extern "C" fn kelvrist_plan(job: &[u8], plan: &mut [u8]) -> u32
     let mut processors = [0u8; 256];
     let mut scratch = [0u32; 4096];
     let planned = schedule::plan(job, &mut starts, &mut processors, &mut scratch);
-    let Planned::Plan { tasks, end: _ } = planned else {
+    let Planned::Plan(outcome) = planned else {
         return plan_number(planned);
     };
+    let tasks = outcome.tasks;
     if plan.len() < 5 * tasks {
         return 9;
     }

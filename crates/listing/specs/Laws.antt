@@ -1,4 +1,5 @@
 pub mod Put
 pub mod Digits
+pub mod Calls
 pub mod Listed
 pub mod Told

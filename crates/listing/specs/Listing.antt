@@ -14,7 +14,7 @@ use Rattle.etf.specs.Rule.{planned}
 use Rattle.etf.specs.Cover.{cover}
 use Rattle.etf.specs.Dearest.{dearest}
 use Rattle.etf.specs.OfJob.{instance}
-use Rattle.schedule.specs.Plan.{startOf, processorOf}
+use Rattle.schedule.specs.Call.{startOf, processorOf}
 
 -- the bytes of a text, in ASCII
 unfoldable pub text : String → List ℕ

@@ -3,32 +3,36 @@ mod put;
 
 use job::Verdict;
 use schedule::Covered;
+use schedule::Figures;
+use schedule::Planned;
 ghost use mathlib.Core.Path.{_≡_};
-ghost use Prim.Native.Nat.{ℕ, _+_, _*_, _≤_, _<_, max};
+ghost use Prim.Native.Nat.{ℕ, _+_, _*_, _≤_, _<_};
 ghost use lib.ListN.{length, getD};
-ghost use Rattle.base.specs.Rows.{most};
 ghost use Rattle.base.specs.Slices.{Put};
 ghost use Rattle.listing.specs.Listing.{header as headerOf, taskLine, taskLines, figures as figuresOf, refusalLine};
 ghost use Rattle.listing.specs.Listing.{listed, putFirst, listingCall};
-ghost use Rattle.listing.specs.Pass.{coverIn, dearestIn};
+ghost use Rattle.listing.specs.Pass.{endIn, figuresIn};
 
-// The cover.
-fn cover_in(covered: Covered) -> u32
-    ensures { λ r. ⌜ r ≡ coverIn covered ⌝ }
+// The end that the planner reports; 0 on a refusal.
+fn end_in(planned: Planned) -> u32
+    ensures { λ r. ⌜ r ≡ endIn planned ⌝ }
 {
-    match covered {
-        Covered::Cover { cover, dearest: _ } => cover,
-        Covered::Refused(_) => 0,
+    match planned {
+        Planned::Plan(outcome) => outcome.end,
+        Planned::Refused(_) => 0,
     }
 }
 
-// The dearest chain.
-fn dearest_in(covered: Covered) -> u32
-    ensures { λ r. ⌜ r ≡ dearestIn covered ⌝ }
+// What the cover call reports; zeros on a refusal.
+fn figures_in(covered: Covered) -> Figures
+    ensures { λ r. ⌜ r ≡ figuresIn covered ⌝ }
 {
     match covered {
-        Covered::Cover { cover: _, dearest } => dearest,
-        Covered::Refused(_) => 0,
+        Covered::Cover(reported) => reported,
+        Covered::Refused(_) => Figures {
+            cover: 0,
+            dearest: 0,
+        },
     }
 }
 
@@ -68,7 +72,9 @@ fn lines<'a>(
     requires { ⌜ (tasks ≤ 256) × (at + 44 * tasks ≤ length (now out)) ⌝ }
     requires { ⌜ (tasks ≤ length (now durations)) × (tasks ≤ length (now starts)) × (tasks ≤ length (now processors)) ⌝ }
     requires { ⌜ ((T : ℕ) → T < tasks → getD (now starts) T 0 + getD (now durations) T 0 < 4294967296) ⌝ }
-    ensures { λ r. ⌜ Put (now (out .entry)) (now (out .exit)) at r (taskLines tasks (λ T. getD (now (processors .entry)) T 0) (λ T. getD (now (starts .entry)) T 0) (λ T. getD (now (durations .entry)) T 0)) ⌝ }
+    ensures { λ r. ⌜ Put (now (out .entry)) (now (out .exit)) at r
+        (taskLines tasks (λ T. getD (now (processors .entry)) T 0) (λ T. getD (now (starts .entry)) T 0)
+        (λ T. getD (now (durations .entry)) T 0)) ⌝ }
     ensures { λ r. ⌜ r ≤ at + 44 * tasks ⌝ }
 {
     let mut t: usize = 0;
@@ -88,39 +94,15 @@ fn lines<'a>(
     place
 }
 
-fn later(a: u32, b: u32) -> u32
-    ensures { λ r. ⌜ r ≡ max a b ⌝ }
-{
-    if a < b {
-        return b;
-    }
-    a
-}
-
-// The greatest finish (01: the plan's end).
-fn last_finish<'a>(tasks: usize, durations: &'a [u32], starts: &'a [u32]) -> u32
-    requires { ⌜ (tasks ≤ length (now durations)) × (tasks ≤ length (now starts)) ⌝ }
-    requires { ⌜ ((T : ℕ) → T < tasks → getD (now starts) T 0 + getD (now durations) T 0 < 4294967296) ⌝ }
-    ensures { λ r. ⌜ r ≡ most tasks (λ T. getD (now (starts .entry)) T 0 + getD (now (durations .entry)) T 0) ⌝ }
-{
-    let mut end: u32 = 0;
-    let mut t: usize = 0;
-    while t < tasks {
-        end = later(end, starts[t] + durations[t]);
-        t += 1;
-    }
-    end
-}
-
 // The last three lines.
-fn figures(out: &mut [u8], at: usize, end: u32, cover: u32, dearest: u32) -> usize
+fn figures(out: &mut [u8], at: usize, end: u32, reported: Figures) -> usize
     requires { ⌜ at + 51 ≤ length (now out) ⌝ }
-    ensures { λ r. ⌜ Put (now (out .entry)) (now (out .exit)) at r (figuresOf end cover dearest) ⌝ }
+    ensures { λ r. ⌜ Put (now (out .entry)) (now (out .exit)) at r (figuresOf end (reported .cover) (reported .dearest)) ⌝ }
     ensures { λ r. ⌜ r ≤ at + 51 ⌝ }
 {
     let second = put::line(out, at, b"end ", end);
-    let third = put::line(out, second, b"cover ", cover);
-    put::line(out, third, b"dearest ", dearest)
+    let third = put::line(out, second, b"cover ", reported.cover);
+    put::line(out, third, b"dearest ", reported.dearest)
 }
 
 // Writes the line of a refusal to the front of `out`, and answers its length (01: "A refusal prints one line").
@@ -144,9 +126,9 @@ pub fn write(file: &[u8], out: &mut [u8; 12288]) -> usize
     let mut starts = [0u32; 256];
     let mut processors = [0u8; 256];
     let mut scratch = [0u32; 4096];
+    let planned = schedule::plan(file, &mut starts, &mut processors, &mut scratch);
     let covered = schedule::cover(file, &mut starts, &mut processors, &mut scratch);
     let first = header(out, r.platform.processors, tasks, edges);
-    let end = last_finish(tasks, &r.arrays.durations, &starts);
     let last = lines(out, first, tasks, &r.arrays.durations, &starts, &processors);
-    figures(out, last, end, cover_in(covered), dearest_in(covered))
+    figures(out, last, end_in(planned), figures_in(covered))
 }

@@ -1,7 +1,8 @@
--- What the functions for benchmark and differential return and leave, over what the job reader and writer and the cover call return and leave.
+-- What the functions for benchmark and differential return and leave, over what the job reader and writer and the cover call return and
+-- leave.
 use mathlib.Core.Path.{_≡_}
 use mathlib.Core.List.{List, _∷_}
-use Prim.Native.Nat.{ℕ, _-_}
+use Prim.Native.Nat.{ℕ, _+_, _-_}
 use lib.Dec.{ltb}
 use lib.ListN.{length, getD, drop}
 use Rattle.base.specs.Choice.{pick}
@@ -10,25 +11,40 @@ use Rattle.job.specs.declared.Verdict.{Verdict}
 use Rattle.job.specs.declared.Verdict.the-variants.{Counts, Refused as NotRead}
 use Rattle.job.specs.declared.Written.{Written}
 use Rattle.job.specs.declared.Written.the-variants.{Length, Refused as NotWritten}
+use Rattle.job.specs.Limits.{mostTasks, mostEdges}
 use Rattle.job.specs.Job.{Job}
 use Rattle.job.specs.Read.{Answer, accepted, refused, readJob, verdictNumber}
 use Rattle.job.specs.Write.{heldJob, writeAnswer, writeOut}
 use Rattle.schedule.specs.declared.Covered.{Covered}
 use Rattle.schedule.specs.declared.Covered.the-variants.{Cover, Refused as NotCovered}
-use Rattle.schedule.specs.Cover.{CoverCall, coverCall}
+use Rattle.schedule.specs.Call.{Call}
+use Rattle.schedule.specs.Cover.{coverCall}
 
 -- 0 for a job that was written, or the refusal's number
 abbrev pub writtenNumber : Written → ℕ
 writtenNumber (Length n) = 0
 writtenNumber (NotWritten k) = k
 
--- the number at a place, counted through the durations, from, to and the counts; past them the verdict's number
+-- places counted through the durations, from, to and the counts: the first that is past each of these arrays
+abbrev pub pastDurations : ℕ
+pastDurations = mostTasks
+
+abbrev pub pastFrom : ℕ
+pastFrom = pastDurations + mostEdges
+
+abbrev pub pastTo : ℕ
+pastTo = pastFrom + mostEdges
+
+abbrev pub pastCounts : ℕ
+pastCounts = pastTo + mostEdges
+
+-- the number at a place; past the arrays the verdict's number
 unfoldable pub numberAt : Reading → ℕ → ℕ
 numberAt r place =
-    pick (ltb place 256) (getD (r .arrays .durations) place 0)
-    (pick (ltb place 1280) (getD (r .arrays .from) (place - 256) 0)
-    (pick (ltb place 2304) (getD (r .arrays .to) (place - 1280) 0)
-    (pick (ltb place 3328) (getD (r .arrays .counts) (place - 2304) 0)
+    pick (ltb place pastDurations) (getD (r .arrays .durations) place 0)
+    (pick (ltb place pastFrom) (getD (r .arrays .from) (place - pastDurations) 0)
+    (pick (ltb place pastTo) (getD (r .arrays .to) (place - pastFrom) 0)
+    (pick (ltb place pastCounts) (getD (r .arrays .counts) (place - pastTo) 0)
     (verdictNumber (r .verdict)))))
 
 -- the first m tasks and l edges of what was read
@@ -52,12 +68,12 @@ pub record Copied (number : ℕ) (after : List ℕ) (r : Reading) (before : List
 
 -- the number of a refused cover call; 0 for an accepted one
 abbrev pub refusalIn : Covered → ℕ
-refusalIn (Cover C D) = 0
+refusalIn (Cover f) = 0
 refusalIn (NotCovered k) = k
 
 -- the two numbers of an accepted cover call at the front of the output, or what it held
 abbrev pub numbersIn : Covered → List ℕ → List ℕ
-numbersIn (Cover C D) out = C ∷ D ∷ drop 2 out
+numbersIn (Cover f) out = f .cover ∷ f .dearest ∷ drop 2 out
 numbersIn (NotCovered k) out = out
 
 -- what a call returns, and the last content of the starts, the processors, the scratch and the output
@@ -73,7 +89,7 @@ coverReturned k starts processors scratch out =
     record { number = k; starts = starts; processors = processors; scratch = scratch; out = out }
 
 -- the cover call with its numbers in an output
-abbrev pub withOutput : CoverCall → List ℕ → CoverReturned
+abbrev pub withOutput : Call Covered → List ℕ → CoverReturned
 withOutput c out = coverReturned (refusalIn (c .answer)) (c .starts) (c .processors) (c .scratch) (numbersIn (c .answer) out)
 
 -- a refused file's number, or 9

@@ -1,4 +1,5 @@
-// The job reader and writer and the cover call as functions that the benchmark (bench/) and the differential (tests/differential) call from C.
+// The job reader and writer and the cover call as functions that the benchmark (bench/) and the differential (tests/differential) call
+// from C.
 use job::Verdict;
 use job::Written;
 use schedule::Covered;
@@ -83,10 +84,7 @@ fn cover_refusal(covered: Covered) -> u32
     ensures { λ r. ⌜ r ≡ refusalIn covered ⌝ }
 {
     match covered {
-        Covered::Cover {
-            cover: _,
-            dearest: _,
-        } => 0,
+        Covered::Cover(_) => 0,
         Covered::Refused(number) => base::wide8(number),
     }
 }
@@ -101,7 +99,8 @@ pub extern "C" fn timing_cover(
     scratch: &mut [u32],
     out: &mut [u32],
 ) -> u32
-    ensures { λ r. ⌜ coverReturned r (now (starts .exit)) (now (processors .exit)) (now (scratch .exit)) (now (out .exit)) ≡ coverTimed (now (file .entry)) (now (starts .entry)) (now (processors .entry)) (now (scratch .entry)) (now (out .entry)) ⌝ }
+    ensures { λ r. ⌜ coverReturned r (now (starts .exit)) (now (processors .exit)) (now (scratch .exit)) (now (out .exit)) ≡
+        coverTimed (now (file .entry)) (now (starts .entry)) (now (processors .entry)) (now (scratch .entry)) (now (out .entry)) ⌝ }
 {
     if out.len() < 2 {
         let r = job::read(file);
@@ -112,10 +111,10 @@ pub extern "C" fn timing_cover(
         return 9;
     }
     let covered = schedule::cover(file, starts, processors, scratch);
-    let Covered::Cover { cover, dearest } = covered else {
+    let Covered::Cover(figures) = covered else {
         return cover_refusal(covered);
     };
-    out[0] = cover;
-    out[1] = dearest;
+    out[0] = figures.cover;
+    out[1] = figures.dearest;
     0
 }

@@ -15,9 +15,9 @@ ghost use lib.ListN.{length};
 fn show_planned(planned: Planned) {
     show::text(b"plan");
     match planned {
-        Planned::Plan { tasks, end } => {
-            show::word(number::wide(tasks));
-            show::word(number::wide32(end));
+        Planned::Plan(outcome) => {
+            show::word(number::wide(outcome.tasks));
+            show::word(number::wide32(outcome.end));
         }
         Planned::Refused(number) => {
             show::text(b" refused");
@@ -29,9 +29,9 @@ fn show_planned(planned: Planned) {
 fn show_covered(covered: Covered) {
     show::text(b"cover");
     match covered {
-        Covered::Cover { cover, dearest } => {
-            show::word(number::wide32(cover));
-            show::word(number::wide32(dearest));
+        Covered::Cover(figures) => {
+            show::word(number::wide32(figures.cover));
+            show::word(number::wide32(figures.dearest));
         }
         Covered::Refused(number) => {
             show::text(b" refused");

@@ -7,6 +7,7 @@ use borrow.Author.Needs.{needs}
 use lib.ListN.{length, getD}
 use Rattle.job.specs.declared.Verdict.{Verdict}
 use Rattle.job.specs.declared.Verdict.the-variants.{Counts, Refused}
+use Rattle.job.specs.Limits.{mostTasks}
 use Rattle.job.specs.Job.{Job}
 use Rattle.job.specs.Read.{accepted, readJob, verdictNumber, readingOf}
 use Rattle.job.specs.Accepted.{accepted-job, counted, refused-is}
@@ -22,7 +23,7 @@ module _ (file : List ℕ) {w : Verdict} (e : w ≡ readingOf (readJob file) .ve
   found : (j : Job) × (readJob file ≡ accepted j) × (length (j .tasks) ≡ m) × (length (j .edges) ≡ l)
   found = counted (readJob file) m l (sym e ∙ v)
 
-  few : m ≤ 256
+  few : m ≤ mostTasks
   few = omega (arith, found .2, accepted-job file (found .0) (found .1) .few-tasks)
 
 module _ (file plan : List ℕ) {w : Verdict} (e : w ≡ readingOf (readJob file) .verdict) where
@@ -41,7 +42,7 @@ module _ (file plan : List ℕ) {w : Verdict} (e : w ≡ readingOf (readJob file
 
     -- the tasks that were decoded are the job's
     answers : (starts processors : List ℕ) {c : Checked} {n : ℕ} (k : ℕ)
-        → 5 * m ≤ length plan → length starts ≡ 256 → length processors ≡ 256
+        → 5 * m ≤ length plan → length starts ≡ mostTasks → length processors ≡ mostTasks
         → ((T : ℕ) → T < k → (getD starts T 0 ≡ startIn plan T) × (getD processors T 0 ≡ processorIn plan T)) → k ≡ m
         → c ≡ checkCall file starts processors → n ≡ checkNumber c → n ≡ checkBytesCall file plan
     unfolding instance
@@ -50,6 +51,20 @@ module _ (file plan : List ℕ) {w : Verdict} (e : w ≡ readingOf (readJob file
         ∙ (ap checkNumber c-is
         ∙ sym (check-number file plan (job .0) (job .1) starts processors (omega (arith, job .2)) (omega (arith, job .2, few file e v))
         (omega (arith, job .2, few file e v)) (λ T i. got T (omega (arith, job .2)))))
+
+-- ---- the places: the call of the reader, its counts, a plan's bytes that are long enough, and the tasks that were read off them
+
+abbrev call-of : tie.After-verdict → tie.After-verdict-on
+call-of v = v .before .before
+
+abbrev verdict-of : tie.Else1 → tie.After-verdict
+verdict-of l = l .before .before
+
+abbrev long-of : tie.After-get → tie.Else1
+long-of g = g .before .before .before
+
+abbrev get-of : tie.After-check → tie.After-get
+get-of k = k .before .before .before .before .before
 
 verdict-on-requires : tie.Need-verdict-on-requires
 verdict-on-requires c κs = search needs
@@ -68,20 +83,20 @@ wide8-requires c κs = search needs
 
 returns : tie.Need-returns
 returns c =
-    let at-number = c .before in
-    let at-told = at-number .before in
-    refuses _ _ (at-told .before .before .verdict-on .ensures) _ (at-told .enum-told .given .1)
-    (omega (arith, c .wide8 .ensures .0, at-number .number .ensures))
+    let n = c .before in
+    let told = n .before in
+    refuses _ _ (told .before .before .verdict-on .ensures) _ (told .enum-told .given .1)
+    (omega (arith, c .wide8 .ensures .0, n .number .ensures))
 
 mul-bytes : tie.Need-mul-bytes
 mul-bytes c =
-    let at-verdict = c .before in
-    record { fits = omega (arith, few _ (at-verdict .before .before .verdict-on .ensures) (at-verdict .verdict .given .1)) }
+    let v = c .before in
+    record { fits = omega (arith, few _ (call-of v .verdict-on .ensures) (v .verdict .given .1)) }
 
 returns-2 : tie.Need-returns-2
 returns-2 c =
-    let at-verdict = c .before .before in
-    too-short _ _ (at-verdict .before .before .verdict-on .ensures) (at-verdict .verdict .given .1) (omega (arith, c .if1 .taken))
+    let v = c .before .before in
+    too-short _ _ (call-of v .verdict-on .ensures) (v .verdict .given .1) (omega (arith, c .if1 .taken))
 
 slice-aggregate-get : tie.Need-slice-aggregate-get
 slice-aggregate-get c = search needs
@@ -91,10 +106,10 @@ slice-aggregate-get-2 c = search needs
 
 get-requires : tie.Need-get-requires
 get-requires c κs =
-    let at-if1 = c .before .before in
-    let at-verdict = at-if1 .before .before in
-    let small = few _ (at-verdict .before .before .verdict-on .ensures) (at-verdict .verdict .given .1) in
-    (omega (arith, small), omega (arith, small), omega (arith, at-if1 .if1 .left))
+    let l = c .before .before in
+    let v = verdict-of l in
+    let small = few _ (call-of v .verdict-on .ensures) (v .verdict .given .1) in
+    (omega (arith, small), omega (arith, small), omega (arith, l .if1 .left))
 
 slice-aggregate-check : tie.Need-slice-aggregate-check
 slice-aggregate-check c = search needs
@@ -110,13 +125,14 @@ check-number-requires c κs = search needs
 
 returns-3 : tie.Need-returns-3
 returns-3 c =
-    let at-check = c .before in
-    let at-get = at-check .before .before .before .before .before in
-    let at-if1 = at-get .before .before .before in
-    let at-verdict = at-if1 .before .before in
-    answers _ _ (at-verdict .before .before .verdict-on .ensures) (at-verdict .verdict .given .1) _ _ _ (omega (arith, at-if1 .if1 .left))
-    (at-get .get .kept .1 .1 .0) (at-get .get .kept .1 .1 .1 .0) (at-get .get .ensures) (omega arith) (at-check .check .ensures)
-    (c .check-number .ensures)
+    let k = c .before in
+    let g = get-of k in
+    let l = long-of g in
+    let v = verdict-of l in
+    let starts-kept = g .get .kept .1 .1 .0 in
+    let processors-kept = g .get .kept .1 .1 .1 .0 in
+    answers _ _ (call-of v .verdict-on .ensures) (v .verdict .given .1) _ _ _ (omega (arith, l .if1 .left))
+    starts-kept processors-kept (g .get .ensures) (omega arith) (k .check .ensures) (c .check-number .ensures)
 
 pub kelvrist-check-spec : {M : Type 1} → statement M
 kelvrist-check-spec =

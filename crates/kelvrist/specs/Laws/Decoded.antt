@@ -1,4 +1,4 @@
--- A plan's bytes read back: the bytes of the tasks before are passed over, and the next five are the task's.
+-- What is read off a plan's bytes for a task, past the bytes of the tasks before it, is the processor and the start that were written.
 use mathlib.Core.Path.{_≡_, ap, sym, _∙_}
 use mathlib.Core.List.{List, _++_, flatMap, append-assoc}
 use Prim.Native.Nat.{ℕ, zero, suc, _+_, _*_, _-_, _^_, _<_}
@@ -15,7 +15,9 @@ use Rattle.kelvrist.specs.Laws.Encoded.{task-size}
 
 module _ (g : ℕ → List ℕ) (five : (T : ℕ) → length (g T) ≡ 5) (rest : List ℕ) where
   -- from task i on: the bytes after those of T tasks
-  after : (i T k : ℕ) → drop (5 * T) (flatMap g (values (λ x. x) i (T + suc k)) ++ rest) ≡ g (i + T) ++ (flatMap g (values (λ x. x) (suc (i + T)) k) ++ rest)
+  after : (i T k : ℕ)
+      → drop (5 * T) (flatMap g (values (λ x. x) i (T + suc k)) ++ rest)
+      ≡ g (i + T) ++ (flatMap g (values (λ x. x) (suc (i + T)) k) ++ rest)
   unfolding values flatMap
   after i zero k = rw (zero-add (suc k), add-zero i) (append-assoc (g i) (flatMap g (values (λ x. x) (suc i) k)) rest)
   after i (suc T) k =
@@ -55,5 +57,8 @@ module _ (m : ℕ) (processor start : ℕ → ℕ) (rest : List ℕ) where
   start-back T h b =
       let s = at-task T h in
       let d : drop (5 * T + 1) plan ≡ bytes 4 (start T) ++ later T = sym (drop-drop 1 (5 * T) plan) ∙ ap (drop 1) s in
-      ap number (ap (take 4) d ∙ (ap (λ (n : ℕ). take n (bytes 4 (start T) ++ later T)) (sym (length-bytes 4 (start T))) ∙ take-append-seam (bytes 4 (start T)) (later T)))
+      ap number
+      (ap (take 4) d
+      ∙ (ap (λ (n : ℕ). take n (bytes 4 (start T) ++ later T)) (sym (length-bytes 4 (start T)))
+      ∙ take-append-seam (bytes 4 (start T)) (later T)))
       ∙ number-bytes 4 (start T) (omega arith)

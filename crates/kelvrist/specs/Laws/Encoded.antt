@@ -1,4 +1,4 @@
--- A plan's bytes against the two arrays that hold it, by stores that follow on each other and by place.
+-- A plan's bytes and the two arrays that hold it, one task more at a time: what `encoding::put` stores and what `encoding::get` takes.
 use mathlib.Core.Path.{_≡_, refl, ap, sym, _∙_}
 use mathlib.Core.Logic.{_⊎_, inl, inr}
 use mathlib.Core.List.{List, [], _∷_, _++_, flatMap}
@@ -37,8 +37,9 @@ module _ (processor start : ℕ → ℕ) where
   put-none plan = refl
 
   -- one task more
-  pub put-more : (plan plan′ plan″ : List ℕ) (t : ℕ) → plan′ ≡ sets plan 0 (planBytes t processor start) → plan″ ≡ sets plan′ (5 * t) (taskBytes (processor t) (start t)) →
-      plan″ ≡ sets plan 0 (planBytes (t + 1) processor start)
+  pub put-more : (plan plan′ plan″ : List ℕ) (t : ℕ)
+      → plan′ ≡ sets plan 0 (planBytes t processor start) → plan″ ≡ sets plan′ (5 * t) (taskBytes (processor t) (start t))
+      → plan″ ≡ sets plan 0 (planBytes (t + 1) processor start)
   unfolding planBytes
   put-more plan plan′ plan″ t e h =
       rw (upto-values (t + 1))
@@ -46,8 +47,8 @@ module _ (processor start : ℕ → ℕ) where
       (rw (upto-values t) at e) (rw (zero-add (5 * t)) h))
 
   -- all of them
-  pub put-all : (plan plan′ : List ℕ) (t m : ℕ) → t ≡ m → 5 * m ≤ length plan → plan′ ≡ sets plan 0 (planBytes t processor start) →
-      plan′ ≡ planBytes m processor start ++ drop (5 * m) plan
+  pub put-all : (plan plan′ : List ℕ) (t m : ℕ) → t ≡ m → 5 * m ≤ length plan → plan′ ≡ sets plan 0 (planBytes t processor start)
+      → plan′ ≡ planBytes m processor start ++ drop (5 * m) plan
   put-all plan plan′ t m e h p = p ∙ rw e (sets-front plan (planBytes m processor start) (5 * m) (plan-size m) h)
 
 -- ---- get
@@ -79,6 +80,7 @@ got-more plan starts processors t at p s g hs hp l at-is p-is s-is T h = go (le-
         rw q (getD-set-same starts t s 0 hs ∙ start, getD-set-same processors t p 0 hp ∙ (p-is ∙ rw at-is))
 
 -- ---- only the tasks' places count: plans that are the same on the first m tasks have the same bytes
-pub plan-bytes-same : (m : ℕ) (p q s t : ℕ → ℕ) → ((T : ℕ) → T < m → p T ≡ q T) → ((T : ℕ) → T < m → s T ≡ t T) → planBytes m p s ≡ planBytes m q t
+pub plan-bytes-same : (m : ℕ) (p q s t : ℕ → ℕ) → ((T : ℕ) → T < m → p T ≡ q T) → ((T : ℕ) → T < m → s T ≡ t T)
+    → planBytes m p s ≡ planBytes m q t
 unfolding planBytes
 plan-bytes-same m p q s t e h = flatMap-same _ _ (upto m) (λ T k. rw (e T (upto-of m T k), h T (upto-of m T k)))

@@ -17,10 +17,10 @@ use Rattle.etf.specs.Rule.{planned}
 use Rattle.etf.specs.OfJob.{instance}
 use Rattle.etf.specs.Jobs.{well-formed, no-finish-passes}
 use Rattle.etf.specs.Laws.Planned.{home}
-use Rattle.schedule.specs.Plan.{startOf, processorOf}
+use Rattle.schedule.specs.Call.{startOf, processorOf}
 use Rattle.schedule.specs.Check.{numberOf}
-use Rattle.schedule.specs.Laws.Answer.{check-of-same}
-use Rattle.schedule.specs.Laws.OwnPlan.{own}
+use Rattle.schedule.specs.Laws.Checker.Answer.{check-of-same}
+use Rattle.schedule.specs.Laws.Checker.OwnPlan.{own}
 use Rattle.kelvrist.specs.PlanBytes.{returned, planBytes, processorIn, startIn, planBytesFor, checkBytesFor}
 use Rattle.kelvrist.specs.Laws.Encoded.{plan-size}
 use Rattle.kelvrist.specs.Laws.Decoded.{processor-back, start-back}
@@ -34,21 +34,29 @@ module _ (j : Job) (a : Accepted j) where
   unfolding startOf
   start-fits T h = omega (arith, no-finish-passes j a (placementOf (planned I) T) (home I (well-formed j a) T h .0))
 
-  pub bytes-yes : (plan : List ℕ) → planBytesFor (accepted j) plan .number ≡ 0 → checkBytesFor (accepted j) (planBytesFor (accepted j) plan .plan) ≡ 0
+  pub bytes-yes : (plan : List ℕ) → planBytesFor (accepted j) plan .number ≡ 0
+      → checkBytesFor (accepted j) (planBytesFor (accepted j) plan .plan) ≡ 0
   unfolding planBytesFor checkBytesFor numberOf
   bytes-yes plan h = go (ltb (length plan) (5 * tasks I)) refl h
     where
+      -- the bytes that are not filled
+      rest : List ℕ
+      rest = drop (5 * tasks I) plan
+
       full : List ℕ
-      full = planBytes (tasks I) (processorOf I) (startOf I) ++ drop (5 * tasks I) plan
+      full = planBytes (tasks I) (processorOf I) (startOf I) ++ rest
+
+      size : length full ≡ 5 * tasks I + length rest
+      size =
+          length-append (planBytes (tasks I) (processorOf I) (startOf I)) rest
+          ∙ ap (λ (n : ℕ). n + length rest) (plan-size (processorOf I) (startOf I) (tasks I))
 
       go : (b : Bool) → ltb (length plan) (5 * tasks I) ≡ b → (pick b (returned 9 plan) (returned 0 full)) .number ≡ 0
           → checkBytesFor (accepted j) ((pick b (returned 9 plan) (returned 0 full)) .plan) ≡ 0
       go true p w = absurd (omega arith)
       go false p w =
-          let size : length full ≡ 5 * tasks I + length (drop (5 * tasks I) plan) =
-          length-append (planBytes (tasks I) (processorOf I) (startOf I)) (drop (5 * tasks I) plan) ∙ ap (λ (n : ℕ). n + length (drop (5 * tasks I) plan)) (plan-size (processorOf I) (startOf I) (tasks I)) in
           simp (le-ltb (length full) (5 * tasks I) (omega (arith, size)))
           (ap numberOf
           (check-of-same I (processorIn full) (processorOf I) (startIn full) (startOf I)
-          (processor-back (tasks I) (processorOf I) (startOf I) (drop (5 * tasks I) plan))
-          (λ T h. start-back (tasks I) (processorOf I) (startOf I) (drop (5 * tasks I) plan) T h (start-fits T h)) ∙ own j a))
+          (processor-back (tasks I) (processorOf I) (startOf I) rest)
+          (λ T h. start-back (tasks I) (processorOf I) (startOf I) rest T h (start-fits T h)) ∙ own j a))

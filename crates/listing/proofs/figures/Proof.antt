@@ -10,7 +10,9 @@ use Rattle.listing.specs.Listing.{text, line, figures}
 use Rattle.listing.proofs.figures.Statement.{statement}
 use Rattle.listing.proofs.figures.Tie as tie
 
-whole : {a b c d : List ℕ} {i j k l : ℕ} (E C D e c′ d′ : ℕ) → Put a b i j (line (text "end ") e) → Put b c j k (line (text "cover ") c′) → Put c d k l (line (text "dearest ") d′)
+-- three lines put, and their numbers
+whole : {a b c d : List ℕ} {i j k l : ℕ} (E C D e c′ d′ : ℕ)
+    → Put a b i j (line (text "end ") e) → Put b c j k (line (text "cover ") c′) → Put c d k l (line (text "dearest ") d′)
     → e ≡ E → c′ ≡ C → d′ ≡ D → Put a d i l (figures E C D)
 unfolding figures
 whole E C D e c′ d′ p q r x y z = rw (x, y, z) at (put-then p (put-then q r))
@@ -39,9 +41,13 @@ same-length c = search needs
 returns : tie.Need-returns
 unfolding text
 returns c =
-    let at-second = c .before .before .before .before .before .before .before in
-    let at-first = at-second .before .before .before .before .before in
-    (whole _ _ _ _ _ _ (at-first .line .ensures .0) (at-second .line2 .ensures .0) (c .before .before .line3 .ensures .0) (omega arith) (omega arith) (omega arith), search needs)
+    let at-third = c .before .before in
+    let at-second = at-third .before .before .before .before .before in
+    let at-first = at-second .before .before .before .before .before in (
+      whole _ _ _ _ _ _ (at-first .line .ensures .0) (at-second .line2 .ensures .0) (at-third .line3 .ensures .0)
+          (omega arith) (omega arith) (omega arith),
+      search needs,
+    )
 
 pub figures-spec : {M : Type 1} → statement M
 figures-spec =

@@ -6,11 +6,13 @@ use native.Mathlib.Omega.{arith}
 use borrow.Author.Needs.{needs}
 use Rattle.base.specs.Slices.{Put}
 use Rattle.base.specs.Laws.Put.{put-then}
-use Rattle.listing.specs.Listing.{text, field, header}
+use Rattle.listing.specs.Listing.{text, field, space, lineFeed, header}
 use Rattle.listing.proofs.header.Statement.{statement}
 use Rattle.listing.proofs.header.Tie as tie
 
-whole : {a b c d e : List ℕ} {i j k l m : ℕ} (word : List ℕ) (n t s n′ t′ s′ : ℕ) → word ≡ text "plan " → Put a b i j word → Put b c j k (field n′ 32) → Put c d k l (field t′ 32) → Put d e l m (field s′ 10)
+-- a word and three fields put, and their numbers
+whole : {a b c d e : List ℕ} {i j k l m : ℕ} (word : List ℕ) (n t s n′ t′ s′ : ℕ) → word ≡ text "plan " → Put a b i j word
+    → Put b c j k (field n′ space) → Put c d k l (field t′ space) → Put d e l m (field s′ lineFeed)
     → n′ ≡ n → t′ ≡ t → s′ ≡ s → Put a e i m (header n t s)
 unfolding header
 whole word n t s n′ t′ s′ w p q r u x y z = rw (w, x, y, z) at (put-then p (put-then q (put-then r u)))
@@ -45,10 +47,15 @@ same-length c = search needs
 returns : tie.Need-returns
 unfolding text
 returns c =
-    let at-third = c .before .before .before .before .before .before in
+    let at-third = c .before .before in
     let at-second = at-third .before .before .before .before in
-    let at-word = at-second .before .before .before .before .before in
-    (whole _ _ _ _ _ _ _ refl (at-word .word .ensures) (at-second .field .ensures .0) (at-third .field2 .ensures .0) (c .before .before .field3 .ensures .0) (omega (arith, at-second .before .wide8 .ensures)) (omega arith) (omega arith), search needs)
+    let at-first = at-second .before .before .before .before in
+    let at-word = at-first .before .before .before .before .before in (
+      whole _ _ _ _ _ _ _ refl (at-word .word .ensures)
+          (at-first .field .ensures .0) (at-second .field2 .ensures .0) (at-third .field3 .ensures .0)
+          (omega (arith, at-first .before .wide8 .ensures)) (omega arith) (omega arith),
+      search needs,
+    )
 
 pub header-spec : {M : Type 1} → statement M
 header-spec =

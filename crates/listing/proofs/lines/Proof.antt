@@ -20,7 +20,17 @@ abbrev μ-loop : tie.MeasureT-loop
 μ-loop out₀ at tasks durations starts processors t₀ place₀ out t place = tasks - t
 
 loop-holds : tie.Need-loop-holds Inv-loop μ-loop
-loop-holds c = (search needs, search needs, search needs, search needs, refl, search needs, search needs, search needs, lines-none _ _ _ _ _)
+loop-holds c = (
+  search needs,
+  search needs,
+  search needs,
+  search needs,
+  refl,
+  search needs,
+  search needs,
+  search needs,
+  lines-none _ _ _ _ _,
+)
 
 mul-finish : tie.Need-mul-finish Inv-loop μ-loop
 mul-finish c = search needs
@@ -66,9 +76,20 @@ loop-less c = search needs
 
 loop-again : tie.Need-loop-again Inv-loop μ-loop
 loop-again c =
-    let at-wide8 = c .before .before .before .before in
-    let at-loop = at-wide8 .before .before .before .before .before .before in
-    (search needs, search needs, search needs, search needs, search needs, search needs, search needs, search needs, lines-more _ _ _ _ _ _ _ _ (at-loop .loop .inv .8) (c .before .before .task .ensures .0) (omega arith) (omega (arith, at-wide8 .wide8 .ensures)) (omega arith) (omega arith))
+    let at-task = c .before .before in
+    let at-wide8 = at-task .before .before in
+    let at-loop = at-wide8 .before .before .before .before .before .before in (
+      search needs,
+      search needs,
+      search needs,
+      search needs,
+      search needs,
+      search needs,
+      search needs,
+      search needs,
+      lines-more _ _ _ _ _ _ _ _ (at-loop .loop .inv .8) (at-task .task .ensures .0)
+          (omega arith) (omega (arith, at-wide8 .wide8 .ensures)) (omega arith) (omega arith),
+    )
 
 same-length : tie.Need-same-length Inv-loop μ-loop
 same-length c = search needs

@@ -4,11 +4,13 @@ use Prim.Native.Nat.{ℕ}
 use borrow.Author.Needs.{needs}
 use Rattle.base.specs.Slices.{Put}
 use Rattle.base.specs.Laws.Put.{put-then}
-use Rattle.listing.specs.Listing.{field, taskLine}
+use Rattle.listing.specs.Listing.{field, space, lineFeed, taskLine}
 use Rattle.listing.proofs.task.Statement.{statement}
 use Rattle.listing.proofs.task.Tie as tie
 
-whole : {a b c d e : List ℕ} {i j k l m : ℕ} (T P start finish : ℕ) → Put a b i j (field T 32) → Put b c j k (field P 32) → Put c d k l (field start 32) → Put d e l m (field finish 10) → Put a e i m (taskLine T P start finish)
+-- four fields put
+whole : {a b c d e : List ℕ} {i j k l m : ℕ} (T P start finish : ℕ) → Put a b i j (field T space) → Put b c j k (field P space)
+    → Put c d k l (field start space) → Put d e l m (field finish lineFeed) → Put a e i m (taskLine T P start finish)
 unfolding taskLine
 whole T P start finish p q r s = put-then p (put-then q (put-then r s))
 
@@ -29,10 +31,14 @@ same-length c = search needs
 
 returns : tie.Need-returns
 returns c =
-    let at-third = c .before .before .before .before .before .before in
+    let at-fourth = c .before .before in
+    let at-third = at-fourth .before .before .before .before in
     let at-second = at-third .before .before .before .before in
-    let at-first = at-second .before .before .before .before in
-    (whole _ _ _ _ (at-first .field .ensures .0) (at-second .field2 .ensures .0) (at-third .field3 .ensures .0) (c .before .before .field4 .ensures .0), search needs)
+    let at-first = at-second .before .before .before .before in (
+      whole _ _ _ _ (at-first .field .ensures .0) (at-second .field2 .ensures .0) (at-third .field3 .ensures .0)
+          (at-fourth .field4 .ensures .0),
+      search needs,
+    )
 
 pub task-spec : {M : Type 1} → statement M
 task-spec =

@@ -3,9 +3,28 @@ use mathlib.Core.Path.{refl}
 use Prim.Native.Nat.{_≤_}
 use native.Mathlib.Omega.{arith}
 use borrow.Author.Needs.{needs}
-use Rattle.listing.specs.Laws.Listed.{refused-listed, few-tasks, few-edges, durations-size, finish-fits, plan-listed}
+use Rattle.listing.specs.Laws.Listed.{refused-listed, few-tasks, few-edges, arrays-reach, finish-fits, plan-listed}
 use Rattle.listing.proofs.write.Statement.{statement}
 use Rattle.listing.proofs.write.Tie as tie
+
+-- ---- the places, each from the next
+
+abbrev read-of : tie.After-verdict → tie.After-read
+read-of v = v .before .before
+
+abbrev verdict-of : tie.After-plan → tie.After-verdict
+verdict-of p = p .before .before .before .before .before
+
+abbrev plan-of : tie.After-cover → tie.After-plan
+plan-of k = k .before .before .before .before .before .before .before
+
+abbrev cover-of : tie.After-header → tie.After-cover
+cover-of h = h .before .before .before .before .before
+
+abbrev header-of : tie.After-lines → tie.After-header
+header-of l = l .before .before .before .before .before .before .before
+
+-- ---- the needs
 
 read-requires : tie.Need-read-requires
 read-requires c κs = search needs
@@ -31,6 +50,18 @@ returns c =
       c .refusal .ensures .1,
     )
 
+slice-aggregate-plan : tie.Need-slice-aggregate-plan
+slice-aggregate-plan c = search needs
+
+slice-aggregate-plan-2 : tie.Need-slice-aggregate-plan-2
+slice-aggregate-plan-2 c = search needs
+
+slice-aggregate-plan-3 : tie.Need-slice-aggregate-plan-3
+slice-aggregate-plan-3 c = search needs
+
+plan-requires : tie.Need-plan-requires
+plan-requires c κs = search needs
+
 slice-aggregate-cover : tie.Need-slice-aggregate-cover
 slice-aggregate-cover c = search needs
 
@@ -45,21 +76,11 @@ cover-requires c κs = search needs
 
 header-requires : tie.Need-header-requires
 header-requires c κs =
-    let at-verdict = c .before .before .before .before .before .before .before .before .before in
-    let at-read = at-verdict .before .before in
-    (few-tasks _ (at-read .read .ensures) (at-verdict .verdict .given .1), few-edges _ (at-read .read .ensures) (at-verdict .verdict .given .1), search needs)
-
-slice-aggregate-last-finish : tie.Need-slice-aggregate-last-finish
-slice-aggregate-last-finish c = search needs
-
-last-finish-requires : tie.Need-last-finish-requires
-last-finish-requires c κs =
-    let at-cover = c .before .before .before .before .before .before .before .before .before in
-    let at-verdict = at-cover .before .before .before .before .before in
-    let at-read = at-verdict .before .before in
-    let few = few-tasks _ (at-read .read .ensures) (at-verdict .verdict .given .1) in (
-      (omega (arith, few, durations-size _ (at-read .read .ensures) (at-verdict .verdict .given .1)), omega (arith, few, at-cover .cover .kept .1 .0)),
-      finish-fits _ (at-read .read .ensures) (at-verdict .verdict .given .1) _ _ _ refl refl refl (at-cover .cover .ensures),
+    let k = c .before .before .before .before in
+    let v = verdict-of (plan-of k) in (
+      few-tasks _ (read-of v .read .ensures) (v .verdict .given .1),
+      few-edges _ (read-of v .read .ensures) (v .verdict .given .1),
+      search needs,
     )
 
 slice-aggregate-lines : tie.Need-slice-aggregate-lines
@@ -70,49 +91,49 @@ slice-aggregate-lines-2 c = search needs
 
 lines-requires : tie.Need-lines-requires
 lines-requires c κs =
-    let at-header = c .before .before .before .before .before .before .before .before .before .before .before in
-    let at-cover = at-header .before .before .before .before .before in
-    let at-verdict = at-cover .before .before .before .before .before in
-    let at-read = at-verdict .before .before in
-    let few = few-tasks _ (at-read .read .ensures) (at-verdict .verdict .given .1) in (
-      (few, omega (arith, few, at-header .header .ensures .1, at-header .header .kept .0)),
+    let h = c .before .before .before .before .before .before in
+    let k = cover-of h in
+    let p = plan-of k in
+    let v = verdict-of p in
+    let read = read-of v .read .ensures in
+    let few = few-tasks _ read (v .verdict .given .1) in (
+      (few, omega (arith, few, h .header .ensures .1, h .header .kept .0)),
       (
-        (
-          omega (arith, few, durations-size _ (at-read .read .ensures) (at-verdict .verdict .given .1)),
-          omega (arith, few, at-cover .cover .kept .1 .0),
-          omega (arith, few, at-cover .cover .kept .1 .1 .0),
-        ),
-        finish-fits _ (at-read .read .ensures) (at-verdict .verdict .given .1) _ _ _ refl refl refl (at-cover .cover .ensures),
+        arrays-reach _ read (v .verdict .given .1) _ _ _ refl refl refl (p .plan .ensures) (k .cover .ensures),
+        finish-fits _ read (v .verdict .given .1) _ _ _ refl refl refl (p .plan .ensures) (k .cover .ensures),
       ),
     )
 
-cover-in-requires : tie.Need-cover-in-requires
-cover-in-requires c κs = search needs
+end-in-requires : tie.Need-end-in-requires
+end-in-requires c κs = search needs
 
-dearest-in-requires : tie.Need-dearest-in-requires
-dearest-in-requires c κs = search needs
+figures-in-requires : tie.Need-figures-in-requires
+figures-in-requires c κs = search needs
 
 figures-requires : tie.Need-figures-requires
 figures-requires c κs =
-    let at-lines = c .before .before .before in
-    let at-header = at-lines .before .before .before .before .before .before .before .before .before .before .before .before in
-    let at-verdict = at-header .before .before .before .before .before .before .before .before .before .before in
-    let at-read = at-verdict .before .before in
-    omega (arith, few-tasks _ (at-read .read .ensures) (at-verdict .verdict .given .1), at-header .header .ensures .1, at-header .header .kept .0, at-lines .lines .ensures .1, at-lines .lines .kept .0)
+    let l = c .before .before .before in
+    let h = header-of l in
+    let v = verdict-of (plan-of (cover-of h)) in
+    let few = few-tasks _ (read-of v .read .ensures) (v .verdict .given .1) in
+    omega (arith, few, h .header .ensures .1, h .header .kept .0, l .lines .ensures .1, l .lines .kept .0)
 
 returns-2 : tie.Need-returns-2
 returns-2 c =
-    let at-lines = c .before .before .before .before in
-    let at-header = at-lines .before .before .before .before .before .before .before .before .before .before .before .before in
-    let at-cover = at-header .before .before .before .before .before in
-    let at-verdict = at-cover .before .before .before .before .before in
-    let at-read = at-verdict .before .before in
-    let few = few-tasks _ (at-read .read .ensures) (at-verdict .verdict .given .1) in
-    let short : c .figures .result ≤ 12288 = omega (arith, few, at-header .header .ensures .1, at-lines .lines .ensures .1, c .figures .ensures .1) in (
-      plan-listed _ (at-read .read .ensures) (at-verdict .verdict .given .1) _ _ _ refl refl refl (at-cover .cover .ensures) _ _ _
-          (at-header .header .ensures .0) (at-lines .lines .ensures .0) (c .figures .ensures .0)
-          (at-lines .before .before .before .before .before .before .before .last-finish .ensures) (c .before .before .cover-in .ensures) (c .before .dearest-in .ensures)
-          (omega (arith, short, at-header .before .header-arg .given .0 .1)),
+    let at-figures-in = c .before in
+    let at-end-in = at-figures-in .before in
+    let l = at-end-in .before .before in
+    let h = header-of l in
+    let k = cover-of h in
+    let p = plan-of k in
+    let v = verdict-of p in
+    let read = read-of v .read .ensures in
+    let few = few-tasks _ read (v .verdict .given .1) in
+    let short : c .figures .result ≤ 12288 = omega (arith, few, h .header .ensures .1, l .lines .ensures .1, c .figures .ensures .1) in (
+      plan-listed _ read (v .verdict .given .1) _ _ _ refl refl refl (p .plan .ensures) (k .cover .ensures) _ _
+          (h .header .ensures .0) (l .lines .ensures .0) (c .figures .ensures .0)
+          (at-end-in .end-in .ensures) (at-figures-in .figures-in .ensures)
+          (omega (arith, short, h .before .header-arg .given .0 .1)),
       short,
     )
 
@@ -126,17 +147,19 @@ write-spec =
     number-requires
     refusal-requires
     returns
+    slice-aggregate-plan
+    slice-aggregate-plan-2
+    slice-aggregate-plan-3
+    plan-requires
     slice-aggregate-cover
     slice-aggregate-cover-2
     slice-aggregate-cover-3
     cover-requires
     header-requires
-    slice-aggregate-last-finish
-    last-finish-requires
     slice-aggregate-lines
     slice-aggregate-lines-2
     lines-requires
-    cover-in-requires
-    dearest-in-requires
+    end-in-requires
+    figures-in-requires
     figures-requires
     returns-2)

@@ -34,7 +34,8 @@ spelt-none x places h e = record {
 }
 
 -- one digit more
-pub spelt-more : (x : ℕ) (places : List ℕ) (at rest : ℕ) → Spelt x places at rest → 9 < rest → (0 < at) × Spelt x (set places at (48 + rest % 10)) (at - 1) (rest / 10)
+pub spelt-more : (x : ℕ) (places : List ℕ) (at rest : ℕ) → Spelt x places at rest → 9 < rest
+    → (0 < at) × Spelt x (set places at (48 + rest % 10)) (at - 1) (rest / 10)
 unfolding digits
 spelt-more x places zero rest S h = absurd (omega (arith, S .small, h))
 spelt-more x places (suc k) rest S h =
@@ -47,12 +48,17 @@ spelt-more x places (suc k) rest S h =
         small = omega (arith, S .small, pow-step 10 (suc k));
         says =
             S .says
-            ∙ rw (le-ltb rest 10 h, append-assoc (digits (suc k) (rest / 10)) (d ∷ []) (drop (suc (suc k)) places), drop-of-set places (suc k) d (omega (arith, S .within, S .size)));
+            ∙ rw (
+              le-ltb rest 10 h,
+              append-assoc (digits (suc k) (rest / 10)) (d ∷ []) (drop (suc (suc k)) places),
+              drop-of-set places (suc k) d (omega (arith, S .within, S .size)),
+            );
       }),
     )
 
 -- the first digit
-pub spelt-all : (x : ℕ) (places : List ℕ) (at rest : ℕ) → Spelt x places at rest → rest ≤ 9 → drop at (set places at (48 + rest)) ≡ decimal x
+pub spelt-all : (x : ℕ) (places : List ℕ) (at rest : ℕ) → Spelt x places at rest → rest ≤ 9
+    → drop at (set places at (48 + rest)) ≡ decimal x
 unfolding digits
 spelt-all x places at rest S h =
     drop-of-set places at (48 + rest) (omega (arith, S .within, S .size)) ∙ sym (S .says ∙ rw (lt-ltb rest 10 (omega arith)))

@@ -21,7 +21,8 @@ word-more out out′ at i bytes h e =
     (sets-append out at (take i bytes) (getD bytes i 0 ∷ []) ∙ rw (n, e)))
 
 -- the whole word
-pub word-all : (out out′ : List ℕ) (at i : ℕ) (bytes : List ℕ) → i ≡ length bytes → out′ ≡ sets out at (take i bytes) → Put out out′ at (at + i) bytes
+pub word-all : (out out′ : List ℕ) (at i : ℕ) (bytes : List ℕ) → i ≡ length bytes → out′ ≡ sets out at (take i bytes)
+    → Put out out′ at (at + i) bytes
 word-all out out′ at i bytes h e = record {
   stored = e ∙ ap (sets out at) (take-all i bytes (omega (arith, h)));
   past = omega (arith, h);
@@ -36,10 +37,12 @@ module _ (processor start time : ℕ → ℕ) where
   abbrev line : ℕ → List ℕ
   line T = taskLine T (processor T) (start T) (start T + time T)
 
-  pub lines-more : {out out′ out″ : List ℕ} {at place next : ℕ} (t T P s f : ℕ) → Put out out′ at place (taskLines t processor start time)
-      → Put out′ out″ place next (taskLine T P s f) → T ≡ t → P ≡ processor t → s ≡ start t → f ≡ start t + time t → Put out out″ at next (taskLines (t + 1) processor start time)
+  pub lines-more : {out out′ out″ : List ℕ} {at place next : ℕ} (t T P s f : ℕ)
+      → Put out out′ at place (taskLines t processor start time) → Put out′ out″ place next (taskLine T P s f)
+      → T ≡ t → P ≡ processor t → s ≡ start t → f ≡ start t + time t → Put out out″ at next (taskLines (t + 1) processor start time)
   unfolding taskLines upto flatMap
   lines-more t T P s f p q t-is p-is s-is f-is =
       let one : t + 1 ≡ suc t = omega arith in
-      let e : flatMap line (upto t) ++ line t ≡ flatMap line (upto t ++ (t ∷ [])) = sym (flat-append line (upto t) (t ∷ []) ∙ ap (λ (b : List ℕ). flatMap line (upto t) ++ b) (append-nil (line t))) in
+      let e : flatMap line (upto t) ++ line t ≡ flatMap line (upto t ++ (t ∷ [])) =
+      sym (flat-append line (upto t) (t ∷ []) ∙ ap (λ (b : List ℕ). flatMap line (upto t) ++ b) (append-nil (line t))) in
       rw (one, ← e) (put-then p (rw (t-is, p-is, s-is, f-is) at q))

@@ -39,13 +39,16 @@ returns c = search needs
 
 array-share-prefix-input : tie.Need-array-share-prefix-input
 array-share-prefix-input c =
-    let at-read = c .before .before .before .before in
-    came-within (at-read .read-all .last .0) (c .before .came .given .1) (at-read .read-all .ensures) (at-read .read-all .kept .0)
+    let at-came = c .before in
+    let at-read = at-came .before .before .before in
+    came-within (at-read .read-all .last .0) (at-came .came .given .1) (at-read .read-all .ensures) (at-read .read-all .kept .0)
 
 slice-aggregate-answer : tie.Need-slice-aggregate-answer
 slice-aggregate-answer c =
-    let at-read = c .before .before .before .before .before in
-    sym (length-take-le _ (at-read .read-all .last .0) (came-within (at-read .read-all .last .0) (c .before .before .came .given .1) (at-read .read-all .ensures) (at-read .read-all .kept .0)))
+    let at-came = c .before .before in
+    let at-read = at-came .before .before .before in
+    let input = at-read .read-all .last .0 in
+    sym (length-take-le _ input (came-within input (at-came .came .given .1) (at-read .read-all .ensures) (at-read .read-all .kept .0)))
 
 answer-requires : tie.Need-answer-requires
 answer-requires c κs = search needs

@@ -13,7 +13,8 @@ use Rattle.plan.proofs.read_all.Statement.{statement}
 use Rattle.plan.proofs.read_all.Tie as tie
 
 -- what came fits what is left of the buffer
-fits : {r : Came} {n at : ℕ} (input : List ℕ) → r ≡ Bytes n → count r ≤ length (take (length input - at) (drop at input)) → at ≤ length input → at + n ≤ length input
+fits : {r : Came} {n at : ℕ} (input : List ℕ) → r ≡ Bytes n → count r ≤ length (take (length input - at) (drop at input))
+    → at ≤ length input → at + n ≤ length input
 fits {r} {n} {at} input e h k = omega (arith, ap count e, length-take (length input - at) (drop at input), length-drop at input)
 
 abbrev Inv-loop : tie.InvT-loop
@@ -57,9 +58,10 @@ returns-2 c = search needs
 
 add-at : tie.Need-add-at Inv-loop μ-loop
 add-at c =
-    let at-once = c .before .before .before .before .before .before in
+    let at-came = c .before .before in
+    let at-once = at-came .before .before .before .before in
     let at-loop = at-once .before .before .before in
-    let k = fits (at-loop .loop .input) (c .before .before .came .given .1) (at-once .read-once .ensures) (at-loop .loop .inv .0) in
+    let k = fits (at-loop .loop .input) (at-came .came .given .1) (at-once .read-once .ensures) (at-loop .loop .inv .0) in
     search needs
 
 loop-less : tie.Need-loop-less Inv-loop μ-loop
@@ -67,10 +69,13 @@ loop-less c = search needs
 
 loop-again : tie.Need-loop-again Inv-loop μ-loop
 loop-again c =
-    let at-once = c .before .before .before .before .before .before in
+    let at-came = c .before .before in
+    let at-once = at-came .before .before .before .before in
     let at-loop = at-once .before .before .before in
-    let k = fits (at-loop .loop .input) (c .before .before .came .given .1) (at-once .read-once .ensures) (at-loop .loop .inv .0) in
-    let same = same-len-mid (at-loop .loop .at) (length (at-loop .loop .input) - at-loop .loop .at) (at-loop .loop .input) (at-once .read-once .last .0) (at-once .read-once .kept .0) in
+    let k = fits (at-loop .loop .input) (at-came .came .given .1) (at-once .read-once .ensures) (at-loop .loop .inv .0) in
+    let at = at-loop .loop .at in
+    let input = at-loop .loop .input in
+    let same = same-len-mid at (length input - at) input (at-once .read-once .last .0) (at-once .read-once .kept .0) in
     (omega (arith, same, k), same ∙ at-loop .loop .inv .1)
 
 same-length-3 : tie.Need-same-length-3 Inv-loop μ-loop

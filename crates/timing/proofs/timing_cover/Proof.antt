@@ -12,9 +12,11 @@ use Rattle.job.specs.declared.Reading.{Reading}
 use Rattle.job.specs.declared.Verdict.the-variants.{Counts, Refused as NotRead}
 use Rattle.job.specs.Read.{readJob, verdictNumber, readingOf}
 use Rattle.job.specs.Accepted.{counted, refused-is}
+use Rattle.schedule.specs.declared.Figures.{Figures}
 use Rattle.schedule.specs.declared.Covered.{Covered}
 use Rattle.schedule.specs.declared.Covered.the-variants.{Cover, Refused}
-use Rattle.schedule.specs.Cover.{CoverCall, covered, coverCall}
+use Rattle.schedule.specs.Call.{Call, called}
+use Rattle.schedule.specs.Cover.{coverCall}
 use Rattle.timing.specs.Timing.{refusalIn, coverReturned, withOutput, orNine, coverTimed}
 use Rattle.timing.proofs.timing_cover.Statement.{statement}
 use Rattle.timing.proofs.timing_cover.Tie as tie
@@ -45,16 +47,28 @@ module _ (file starts processors scratch out : List ℕ) where
   unfolding coverTimed
   no-room n h e = simp (lt-ltb (length out) 2 h) (ap (λ (k : ℕ). coverReturned k starts processors scratch out) e)
 
-  module _ {r : Covered} {s p t : List ℕ} (two : 2 ≤ length out) (e : covered r s p t ≡ coverCall file starts processors scratch) where
-    answers : withOutput (covered r s p t) out ≡ coverTimed file starts processors scratch out
+  module _ {r : Covered} {s p t : List ℕ} (two : 2 ≤ length out) (e : called r s p t ≡ coverCall file starts processors scratch) where
+    answers : withOutput (called r s p t) out ≡ coverTimed file starts processors scratch out
     unfolding coverTimed
-    answers = ap (λ (c : CoverCall). withOutput c out) e ∙ simp (le-ltb (length out) 2 two)
+    answers = ap (λ (c : Call Covered). withOutput c out) e ∙ simp (le-ltb (length out) 2 two)
 
     refuses : (k n : ℕ) → r ≡ Refused k → n ≡ refusalIn r → coverReturned n s p t out ≡ coverTimed file starts processors scratch out
     refuses k n h g = ap (λ (q : ℕ). coverReturned q s p t out) (g ∙ rw h) ∙ rw h at answers
 
-    measures : (C D : ℕ) → r ≡ Cover C D → coverReturned 0 s p t (set (set out 0 C) 1 D) ≡ coverTimed file starts processors scratch out
-    measures C D h = ap (coverReturned 0 s p t) (two-places out C D two) ∙ rw h at answers
+    measures : (f : Figures) → r ≡ Cover f
+        → coverReturned 0 s p t (set (set out 0 (f .cover)) 1 (f .dearest)) ≡ coverTimed file starts processors scratch out
+    measures f h = ap (coverReturned 0 s p t) (two-places out (f .cover) (f .dearest) two) ∙ rw h at answers
+
+-- ---- the places: the output's two places, the cover call after them, and what it returned before its answer is told
+
+abbrev start-of : tie.Else1 → tie.Start
+start-of e = e .before .before .before .before .before .before
+
+abbrev room-of : tie.After-cover → tie.Else1
+room-of v = v .before .before .before .before
+
+abbrev cover-of : tie.After-slice-known7 → tie.After-cover
+cover-of k = k .before .before .before .before .before .before
 
 read-requires : tie.Need-read-requires
 read-requires c κs = search needs
@@ -73,16 +87,16 @@ wide8-requires c κs = search needs
 
 returns : tie.Need-returns
 returns c =
-    let at-told = c .before .before in
-    let at-read = at-told .before .before in
-    no-room _ _ _ _ _ _ (omega (arith, at-read .before .if1 .taken))
-    (refused-number _ (at-read .read .ensures) (at-told .enum-told2 .given .1)
-    (omega (arith, c .wide8 .ensures .0, c .before .number .ensures)))
+    let n = c .before in
+    let told = n .before in
+    let read = told .before .before in
+    no-room _ _ _ _ _ _ (omega (arith, read .before .if1 .taken))
+    (refused-number _ (read .read .ensures) (told .enum-told2 .given .1) (omega (arith, c .wide8 .ensures .0, n .number .ensures)))
 
 returns-2 : tie.Need-returns-2
 returns-2 c =
-    let at-read = c .before .before in
-    no-room _ _ _ _ _ _ (omega (arith, at-read .before .if1 .taken)) (accepted-number _ (at-read .read .ensures) (c .enum-told .given .1))
+    let read = c .before .before in
+    no-room _ _ _ _ _ _ (omega (arith, read .before .if1 .taken)) (accepted-number _ (read .read .ensures) (c .enum-told .given .1))
 
 cover-requires : tie.Need-cover-requires
 cover-requires c κs = search needs
@@ -107,20 +121,18 @@ same-length-3 c = search needs
 
 returns-3 : tie.Need-returns-3
 returns-3 c =
-    let at-cover = c .before .before .before .before .before .before .before .before .before in
-    let at-if1 = at-cover .before .before .before .before in
-    refuses _ _ _ _ _ (omega (arith, at-if1 .if1 .left)) (at-cover .cover .ensures) _ _
-    (c .before .enum-told3 .given .1) (c .cover-refusal .ensures)
+    let told = c .before in
+    let v = cover-of (told .before .before) in
+    refuses _ _ _ _ _ (omega (arith, room-of v .if1 .left)) (v .cover .ensures) _ _ (told .enum-told3 .given .1)
+    (c .cover-refusal .ensures)
 
 slice-write-out : tie.Need-slice-write-out
 slice-write-out c = search needs
 
 slice-write-out-2 : tie.Need-slice-write-out-2
 slice-write-out-2 c =
-    let at-cover = c .before .before .before .before .before .before .before .before .before in
-    let at-if1 = at-cover .before .before .before .before in
-    let at-start = at-if1 .before .before .before .before .before .before in
-    second-place (at-start .args .out .now) _ (omega (arith, at-if1 .if1 .left))
+    let room = room-of (cover-of (c .before .before .before)) in
+    second-place (start-of room .args .out .now) _ (omega (arith, room .if1 .left))
 
 same-length-4 : tie.Need-same-length-4
 same-length-4 c = search needs
@@ -136,9 +148,9 @@ same-length-7 c = search needs
 
 returns-4 : tie.Need-returns-4
 returns-4 c =
-    let at-cover = c .before .before .before .before .before .before .before .before .before in
-    let at-if1 = at-cover .before .before .before .before in
-    measures _ _ _ _ _ (omega (arith, at-if1 .if1 .left)) (at-cover .cover .ensures) _ _ (c .before .covered .given .1)
+    let told = c .before in
+    let v = cover-of (told .before .before) in
+    measures _ _ _ _ _ (omega (arith, room-of v .if1 .left)) (v .cover .ensures) _ (told .covered .given .1)
 
 pub timing-cover-spec : {M : Type 1} → statement M
 timing-cover-spec =

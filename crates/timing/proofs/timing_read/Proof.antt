@@ -6,28 +6,29 @@ use borrow.Author.Tests.{lt-ltb, le-ltb}
 use lib.ListN.{getD}
 use Rattle.job.specs.declared.Reading.{Reading}
 use Rattle.job.specs.Read.{verdictNumber}
-use Rattle.timing.specs.Timing.{numberAt}
+use Rattle.timing.specs.Timing.{pastDurations, pastFrom, pastTo, pastCounts, numberAt}
 use Rattle.timing.proofs.timing_read.Statement.{statement}
 use Rattle.timing.proofs.timing_read.Tie as tie
 
 module _ (x r : Reading) (e : x ≡ r) (i : ℕ) where
-  in-durations : (v : ℕ) → v ≡ getD (x .arrays .durations) i 0 → i < 256 → v ≡ numberAt r i
+  in-durations : (v : ℕ) → v ≡ getD (x .arrays .durations) i 0 → i < pastDurations → v ≡ numberAt r i
   unfolding numberAt
   in-durations v g h = rw (← e) (simp (lt-ltb _ _ h) g)
 
-  in-from : (v : ℕ) → v ≡ getD (x .arrays .from) (i - 256) 0 → 256 ≤ i → i < 1280 → v ≡ numberAt r i
+  in-from : (v : ℕ) → v ≡ getD (x .arrays .from) (i - pastDurations) 0 → pastDurations ≤ i → i < pastFrom → v ≡ numberAt r i
   unfolding numberAt
   in-from v g a h = rw (← e) (simp (le-ltb _ _ a, lt-ltb _ _ h) g)
 
-  in-to : (v : ℕ) → v ≡ getD (x .arrays .to) (i - 1280) 0 → 256 ≤ i → 1280 ≤ i → i < 2304 → v ≡ numberAt r i
+  in-to : (v : ℕ) → v ≡ getD (x .arrays .to) (i - pastFrom) 0 → pastDurations ≤ i → pastFrom ≤ i → i < pastTo → v ≡ numberAt r i
   unfolding numberAt
   in-to v g a b h = rw (← e) (simp (le-ltb _ _ a, le-ltb _ _ b, lt-ltb _ _ h) g)
 
-  in-counts : (v : ℕ) → v ≡ getD (x .arrays .counts) (i - 2304) 0 → 256 ≤ i → 1280 ≤ i → 2304 ≤ i → i < 3328 → v ≡ numberAt r i
+  in-counts : (v : ℕ) → v ≡ getD (x .arrays .counts) (i - pastTo) 0 → pastDurations ≤ i → pastFrom ≤ i → pastTo ≤ i → i < pastCounts
+      → v ≡ numberAt r i
   unfolding numberAt
   in-counts v g a b d h = rw (← e) (simp (le-ltb _ _ a, le-ltb _ _ b, le-ltb _ _ d, lt-ltb _ _ h) g)
 
-  past : (v : ℕ) → v ≡ verdictNumber (x .verdict) → 256 ≤ i → 1280 ≤ i → 2304 ≤ i → 3328 ≤ i → v ≡ numberAt r i
+  past : (v : ℕ) → v ≡ verdictNumber (x .verdict) → pastDurations ≤ i → pastFrom ≤ i → pastTo ≤ i → pastCounts ≤ i → v ≡ numberAt r i
   unfolding numberAt
   past v g a b d h = rw (← e) (simp (le-ltb _ _ a, le-ltb _ _ b, le-ltb _ _ d, le-ltb _ _ h) g)
 

@@ -10,11 +10,19 @@ use Rattle.kelvrist.proofs.encoding.get.Tie as tie
 
 abbrev Inv-loop : tie.InvT-loop
 Inv-loop tasks plan starts₀ processors₀ t₀ starts processors t =
-    (t ≤ tasks) × (tasks ≤ length starts₀) × (tasks ≤ length processors₀) × (5 * tasks ≤ length plan) × (length starts ≡ length starts₀) × (length processors ≡ length processors₀)
-    × Got plan starts processors t
+    (t ≤ tasks) × (tasks ≤ length starts₀) × (tasks ≤ length processors₀) × (5 * tasks ≤ length plan)
+    × (length starts ≡ length starts₀) × (length processors ≡ length processors₀) × Got plan starts processors t
 
 abbrev μ-loop : tie.MeasureT-loop
 μ-loop tasks plan starts₀ processors₀ t₀ starts processors t = tasks - t
+
+-- ---- the places
+
+abbrev start-of : tie.At-loop Inv-loop μ-loop → tie.Start Inv-loop μ-loop
+start-of l = l .before .before .before .before
+
+abbrev loop-of : tie.After-number4 Inv-loop μ-loop → tie.At-loop Inv-loop μ-loop
+loop-of n = n .before .before .before .before .before .before .before
 
 loop-holds : tie.Need-loop-holds Inv-loop μ-loop
 unfolding Got
@@ -69,16 +77,15 @@ loop-less : tie.Need-loop-less Inv-loop μ-loop
 loop-less c = search needs
 
 loop-again : tie.Need-loop-again Inv-loop μ-loop
-loop-again c =
-    let v = c .before .before .before .before .before .before .before .loop .inv in (
-      search needs,
-      search needs,
-      search needs,
-      search needs,
-      search needs,
-      search needs,
-      got-more _ _ _ _ _ _ _ (v .6) (omega arith) (omega arith) (omega arith) refl refl (c .number4 .ensures),
-    )
+loop-again c = (
+  search needs,
+  search needs,
+  search needs,
+  search needs,
+  search needs,
+  search needs,
+  got-more _ _ _ _ _ _ _ (loop-of c .loop .inv .6) (omega arith) (omega arith) (omega arith) refl refl (c .number4 .ensures),
+)
 
 same-length : tie.Need-same-length Inv-loop μ-loop
 same-length c = search needs
@@ -89,8 +96,9 @@ same-length-2 c = search needs
 returns : tie.Need-returns Inv-loop μ-loop
 unfolding Got
 returns c =
-    let e : c .before .loop .t ≡ c .before .before .before .before .before .args .tasks = omega arith in
-    rw e at (c .before .loop .inv .6)
+    let l = c .before in
+    let e : l .loop .t ≡ start-of l .args .tasks = omega arith in
+    rw e at (l .loop .inv .6)
 
 pub get-spec : {M : Type 1} → statement M
 get-spec =

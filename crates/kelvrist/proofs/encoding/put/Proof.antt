@@ -18,6 +18,14 @@ Inv-loop tasks starts processors plan₀ t₀ plan t =
 abbrev μ-loop : tie.MeasureT-loop
 μ-loop tasks starts processors plan₀ t₀ plan t = tasks - t
 
+-- ---- the places
+
+abbrev start-of : tie.At-loop Inv-loop μ-loop → tie.Start Inv-loop μ-loop
+start-of l = l .before .before .before .before
+
+abbrev loop-of : tie.After-put-task Inv-loop μ-loop → tie.At-loop Inv-loop μ-loop
+loop-of p = p .before .before .before .before .before
+
 loop-holds : tie.Need-loop-holds Inv-loop μ-loop
 loop-holds c = (search needs, search needs, search needs, search needs, refl, put-none _ _ _)
 
@@ -44,13 +52,14 @@ loop-less c = search needs
 
 loop-again : tie.Need-loop-again Inv-loop μ-loop
 loop-again c =
-    let at-loop = c .before .before .before .before .before .before .before in (
+    let p = c .before .before in
+    let l = loop-of p in (
       search needs,
       search needs,
       search needs,
       search needs,
-      c .before .before .put-task .kept .0 ∙ at-loop .loop .inv .4,
-      put-more _ _ _ _ _ _ (at-loop .loop .inv .5) (c .before .before .put-task .ensures),
+      p .put-task .kept .0 ∙ l .loop .inv .4,
+      put-more _ _ _ _ _ _ (l .loop .inv .5) (p .put-task .ensures),
     )
 
 same-length : tie.Need-same-length Inv-loop μ-loop
@@ -58,8 +67,9 @@ same-length c = search needs
 
 returns : tie.Need-returns Inv-loop μ-loop
 returns c =
-    let e : c .before .loop .t ≡ c .before .before .before .before .before .args .tasks = omega arith in
-    put-all _ _ _ _ _ _ e (search needs) (c .before .loop .inv .5)
+    let l = c .before in
+    let e : l .loop .t ≡ start-of l .args .tasks = omega arith in
+    put-all _ _ _ _ _ _ e (search needs) (l .loop .inv .5)
 
 pub put-spec : {M : Type 1} → statement M
 put-spec =

@@ -17,7 +17,9 @@ use Rattle.listing.proofs.put.field.Tie as tie
 part : (digits : List ℕ) (r x : ℕ) → length digits ≡ 10 → drop r digits ≡ decimal x → take (10 - r) (drop r digits) ≡ decimal x
 part digits r x n e = take-all (10 - r) (drop r digits) (omega (arith, length-drop r digits, n)) ∙ e
 
-ended : {out out′ : List ℕ} {at last : ℕ} {s : List ℕ} (x next : ℕ) → Put out out′ at last s → s ≡ decimal x → Put out (set out′ last next) at (last + 1) (field x next)
+-- the digits put, and the byte set after them
+ended : {out out′ : List ℕ} {at last : ℕ} {s : List ℕ} (x next : ℕ) → Put out out′ at last s → s ≡ decimal x
+    → Put out (set out′ last next) at (last + 1) (field x next)
 unfolding field
 ended x next p e = rw e at (put-byte next p)
 
@@ -53,8 +55,11 @@ same-length c = search needs
 
 returns : tie.Need-returns
 returns c =
-    let at-spell = c .before .before .before .before .before .before .before in
-    let put = ended _ _ (c .before .before .word .ensures) (part (at-spell .spell .last .1 .0) (at-spell .spell .result) _ (at-spell .spell .kept .1 .0) (at-spell .spell .ensures .1)) in
+    let at-word = c .before .before in
+    let at-spell = at-word .before .before .before .before .before in
+    let digits = at-spell .spell .last .1 .0 in
+    let spelt = part digits (at-spell .spell .result) _ (at-spell .spell .kept .1 .0) (at-spell .spell .ensures .1) in
+    let put = ended _ _ (at-word .word .ensures) spelt in
     (put, short _ _ put)
 
 pub field-spec : {M : Type 1} → statement M
