@@ -22,17 +22,22 @@ use Rattle.etf.specs.OfJob.{instance}
 use Rattle.schedule.specs.declared.Planned.the-variants.{Plan, Refused as NotPlanned}
 use Rattle.schedule.specs.declared.Covered.the-variants.{Cover, Refused as NotCovered}
 use Rattle.schedule.specs.declared.Checked.the-variants.{Yes, Refused as NotChecked}
-use Rattle.schedule.specs.Plan.{called, planCall}
-use Rattle.schedule.specs.Cover.{covered, coverCall}
+use Rattle.schedule.specs.declared.Outcome.{Outcome}
+use Rattle.schedule.specs.declared.Figures.{Figures}
+use Rattle.schedule.specs.Call.{called}
+use Rattle.schedule.specs.Plan.{planCall}
+use Rattle.schedule.specs.Cover.{coverCall}
 use Rattle.schedule.specs.Check.{checkFor, checkCall}
 use Rattle.job.specs.Accepted.{refused-is}
 use Rattle.kelvrist.specs.PlanBytes.{returned, processorIn, startIn, planBytesCall, checkBytesCall}
 use Rattle.kelvrist.specs.Numbers.{check-passes-on}
 use Rattle.listing.specs.Listing.{refusalLine, planListing, listing}
 use Rattle.demands.specs.Laws.Printed.{prints}
-use Rattle.demands.specs.Laws.Judged.{read-answers, check-refuses, check-answers, check-returns, check-returns-number, write-answers, write-leaves}
-use Rattle.demands.specs.Laws.Refused.{plan-answered, plan-number, plan-cause, plan-refused, cover-answered, cover-cause, cover-refused}
-use Rattle.demands.specs.Laws.Refused.{plan-as-cover, cover-as-plan, bytes-answered, bytes-number, bytes-cause, bytes-refused}
+use Rattle.demands.specs.Laws.Judged.{read-answers, check-refuses, check-answers, check-returns, check-returns-number}
+use Rattle.demands.specs.Laws.Judged.{write-answers, write-leaves}
+use Rattle.demands.specs.Laws.Answers.{plan-answered, plan-number, plan-cause, plan-refused}
+use Rattle.demands.specs.Laws.Answers.{cover-answered, cover-cause, cover-refused, plan-as-cover, cover-as-plan}
+use Rattle.demands.specs.Laws.Refused.{bytes-answered, bytes-number, bytes-cause, bytes-refused}
 
 -- ---- 00: "The answer to every job file .. is an acceptance or one of the refusal numbers of document 01, whatever the bytes."
 
@@ -42,7 +47,8 @@ module _ (file : List ℕ) where
       ⊎ ((k : ℕ) × (readingOf (readJob file) .verdict ≡ NotRead k) × (1 ≤ k) × (k ≤ 8))
   reader-answers = read-answers file
 
-  -- by a number only with its condition: at a place that it comes to past records without trouble the file ends (1), or a record has the number's cause
+  -- by a number only with its condition: at a place that it comes to past records without trouble the file ends (1), or a record has the
+  -- number's cause
   pub reader-refuses : (k : ℕ) → readingOf (readJob file) .verdict ≡ NotRead k →
       (at : ℕ) × (j : Job) × Reached file at j
       × (((length file ≤ at) × (k ≡ 1)) ⊎ ((at < length file) × Cause (drop (suc at) file) j (kindOf (getD file at 0)) k))
@@ -55,7 +61,7 @@ module _ (file : List ℕ) where
 
   module _ (starts processors scratch : List ℕ) where
     -- the planner accepts, or refuses by 1 to 9
-    pub planner-answers : ((m e : ℕ) × (planCall file starts processors scratch .answer ≡ Plan m e))
+    pub planner-answers : ((o : Outcome) × (planCall file starts processors scratch .answer ≡ Plan o))
         ⊎ ((k : ℕ) × (planCall file starts processors scratch .answer ≡ NotPlanned k) × (1 ≤ k) × (k ≤ 9))
     planner-answers = plan-answered file starts processors scratch
 
@@ -67,7 +73,7 @@ module _ (file : List ℕ) where
     planner-refuses k = (plan-cause file starts processors scratch k, plan-number file starts processors scratch k)
 
     -- the cover call accepts, or refuses by 1 to 9
-    pub cover-answers : ((C D : ℕ) × (coverCall file starts processors scratch .answer ≡ Cover C D))
+    pub cover-answers : ((f : Figures) × (coverCall file starts processors scratch .answer ≡ Cover f))
         ⊎ ((k : ℕ) × (coverCall file starts processors scratch .answer ≡ NotCovered k) × (1 ≤ k) × (k ≤ 9))
     cover-answers = cover-answered file starts processors scratch
 
@@ -92,7 +98,7 @@ module _ (file : List ℕ) where
         ⊎ ((k : ℕ) × (checkCall file starts processors ≡ NotChecked k) × (1 ≤ k) × (k ≤ 13))
     checker-answers = check-answers file starts processors
 
-    -- the reader's number for the file, 9 for a slice too short for an accepted job, or 10 to 13 for a plan that breaks the rule of that number
+    -- the reader's number for the file, 9 for a slice too short for an accepted job, or 10 to 13 for a plan that breaks that number's rule
     pub checker-refuses : (k : ℕ) → checkCall file starts processors ≡ NotChecked k →
         (readJob file ≡ refused k)
         ⊎ ((j : Job) × (readJob file ≡ accepted j)
@@ -113,7 +119,8 @@ module _ (file : List ℕ) where
   pub checker-returns-number : (plan : List ℕ) (k : ℕ) → 1 ≤ k → checkBytesCall file plan ≡ k →
       (readJob file ≡ refused k)
       ⊎ ((j : Job) × (readJob file ≡ accepted j)
-      × (((k ≡ 9) × (length plan < 5 * tasks (instance j))) ⊎ Because (instance j) (scheduleOf (instance j) (processorIn plan) (startIn plan)) k))
+      × (((k ≡ 9) × (length plan < 5 * tasks (instance j)))
+      ⊎ Because (instance j) (scheduleOf (instance j) (processorIn plan) (startIn plan)) k))
   checker-returns-number = check-returns-number file
 
   pub checker-returns-passed : (plan : List ℕ) (k : ℕ) → readJob file ≡ refused k → checkBytesCall file plan ≡ k
@@ -147,9 +154,10 @@ module _ (file starts processors scratch : List ℕ) (k : ℕ) where
   planner-leaves h = plan-refused file starts processors scratch k (plan-cause file starts processors scratch k h)
 
   pub cover-leaves : coverCall file starts processors scratch .answer ≡ NotCovered k
-      → coverCall file starts processors scratch ≡ covered (NotCovered k) starts processors scratch
+      → coverCall file starts processors scratch ≡ called (NotCovered k) starts processors scratch
   cover-leaves h = cover-refused file starts processors scratch k (cover-cause file starts processors scratch k h)
 
 -- the plan that C lends to the planner; the checker is lent nothing that it could alter
-pub planner-leaves-bytes : (file plan : List ℕ) (k : ℕ) → 1 ≤ k → planBytesCall file plan .number ≡ k → planBytesCall file plan ≡ returned k plan
+pub planner-leaves-bytes : (file plan : List ℕ) (k : ℕ) → 1 ≤ k → planBytesCall file plan .number ≡ k
+    → planBytesCall file plan ≡ returned k plan
 planner-leaves-bytes file plan k h e = bytes-refused file plan k (bytes-cause file plan k h e)

@@ -1,8 +1,10 @@
--- Demand 2 of the notice: the plan is the planning rule's and C the walk's, the checker accepts exactly the plans that keep the rules, and no file loses anything.
+-- Demand 2 of the notice: the plan is the planning rule's and C the walk's, the checker accepts exactly the plans that keep the rules, and
+-- no file loses anything.
 use mathlib.Core.Logic.{_↔_}
-use mathlib.Core.Path.{_≡_, refl}
+use mathlib.Core.Path.{_≡_, refl, ap}
 use mathlib.Core.List.{List, _++_}
 use Prim.Native.Nat.{ℕ, _*_, _≤_, _<_}
+use native.Mathlib.Omega.{arith}
 use lib.ListN.{length, getD, take, drop}
 use Rattle.base.specs.Number.{Bytes}
 use Rattle.job.specs.declared.Arrays.{Arrays}
@@ -20,16 +22,19 @@ use Rattle.etf.specs.Dearest.{Chain, price, dearest}
 use Rattle.etf.specs.Checker.{Keeps}
 use Rattle.etf.specs.Walks.{CoverWalk}
 use Rattle.etf.specs.OfJob.{instance}
-use Rattle.schedule.specs.declared.Planned.the-variants.{Plan}
-use Rattle.schedule.specs.declared.Covered.the-variants.{Cover}
+use Rattle.schedule.specs.declared.Planned.the-variants.{Plan, Refused as NotPlanned}
+use Rattle.schedule.specs.declared.Covered.the-variants.{Cover, Refused as NotCovered}
 use Rattle.schedule.specs.declared.Checked.the-variants.{Yes}
-use Rattle.schedule.specs.Plan.{planCall}
+use Rattle.schedule.specs.declared.Outcome.{Outcome}
+use Rattle.schedule.specs.declared.Figures.{Figures}
+use Rattle.schedule.specs.Plan.{outcome, endOf, planCall}
 use Rattle.schedule.specs.Cover.{coverCall}
+use Rattle.schedule.specs.Cover.{figures as figuresOf}
 use Rattle.schedule.specs.Check.{checkCall}
 use Rattle.schedule.specs.OwnPlan.{slices-accepted}
 use Rattle.kelvrist.specs.PlanBytes.{processorIn, startIn, planBytesCall, checkBytesCall}
 use Rattle.kelvrist.specs.OwnPlan.{bytes-accepted}
-use Rattle.demands.specs.Laws.Calls.{planned-as, covered-as}
+use Rattle.demands.specs.Laws.Answers.{planned-as, outcome-is, covered-as, figures-is, planAnswer, coverAnswer}
 use Rattle.listing.specs.Listing.{header, taskLines, figures, listing}
 use Rattle.demands.specs.Laws.Printed.{prints-calls}
 use Rattle.demands.specs.Laws.Kept.{slices-hold, same-slices, measured, bytes-as, yes-keeps, zero-keeps}
@@ -46,17 +51,21 @@ pub record ByTheRule (file : List ℕ) (m E : ℕ) (start processor : ℕ → �
   pub processors-are : (T : ℕ) → T < m → processor T ≡ placementOf (planned (instance job)) T .processor
 
 -- is what the planner's call reports and leaves in the slices
-pub plan-is-etf : (file starts processors scratch : List ℕ) (m E : ℕ) → planCall file starts processors scratch .answer ≡ Plan m E
-    → ByTheRule file m E (λ T. getD (planCall file starts processors scratch .starts) T 0) (λ T. getD (planCall file starts processors scratch .processors) T 0)
-plan-is-etf file starts processors scratch m E h =
-    let P = planned-as file starts processors scratch m E h in
+pub plan-is-etf : (file starts processors scratch : List ℕ) (o : Outcome) → planCall file starts processors scratch .answer ≡ Plan o
+    → ByTheRule file (o .tasks) (o .end)
+    (λ T. getD (planCall file starts processors scratch .starts) T 0) (λ T. getD (planCall file starts processors scratch .processors) T 0)
+unfolding outcome endOf
+plan-is-etf file starts processors scratch o h =
+    let P = planned-as file starts processors scratch o h in
+    let reported = outcome-is file starts processors scratch P in
+    let m-is : o .tasks ≡ tasks (instance (P .job)) = ap (λ (x : Outcome). x .tasks) reported in
     record {
       job = P .job;
       of-file = P .says;
-      tasks-are = P .tasks-are;
-      end-is = P .end-is;
-      starts-are = λ T b. slices-hold P T b .0;
-      processors-are = λ T b. slices-hold P T b .1;
+      tasks-are = m-is;
+      end-is = ap (λ (x : Outcome). x .end) reported;
+      starts-are = λ T b. slices-hold P T (omega (arith, m-is)) .0;
+      processors-are = λ T b. slices-hold P T (omega (arith, m-is)) .1;
     }
 
 -- and what the call from C leaves in the plan's bytes
@@ -66,7 +75,14 @@ bytes-are-etf file plan h =
     let P = bytes-as file plan h in (
       tasks (instance (P .job)),
       end (instance (P .job)) (planned (instance (P .job))),
-      record { job = P .job; of-file = P .says; tasks-are = refl; end-is = refl; starts-are = P .starts-hold; processors-are = P .processors-hold },
+      record {
+        job = P .job;
+        of-file = P .says;
+        tasks-are = refl;
+        end-is = refl;
+        starts-are = P .starts-hold;
+        processors-are = P .processors-hold;
+      },
     )
 
 -- ---- 00: ".. and the cover C is the one found by document 01's walk."
@@ -81,16 +97,19 @@ pub record ByTheWalk (file : List ℕ) (C D : ℕ) : Type 0 where
   pub none-dearer : (es : List Edge) → Chain (instance job) es → price (instance job) es ≤ D
   pub one-as-dear : (es : List Edge) × Chain (instance job) es × (price (instance job) es ≡ D)
 
-pub cover-is-walk : (file starts processors scratch : List ℕ) (C D : ℕ) → coverCall file starts processors scratch .answer ≡ Cover C D → ByTheWalk file C D
-cover-is-walk file starts processors scratch C D h =
-    let Q = covered-as file starts processors scratch C D h in
+pub cover-is-walk : (file starts processors scratch : List ℕ) (f : Figures) → coverCall file starts processors scratch .answer ≡ Cover f
+    → ByTheWalk file (f .cover) (f .dearest)
+unfolding figuresOf
+cover-is-walk file starts processors scratch f h =
+    let Q = covered-as file starts processors scratch f h in
+    let reported = figures-is file starts processors scratch Q in
     let M = measured Q in
     record {
       job = Q .job;
       of-file = Q .says;
-      cover-is = Q .cover-is;
+      cover-is = ap (λ (x : Figures). x .cover) reported;
       walk = M .walk-is;
-      dearest-is = Q .dearest-is;
+      dearest-is = ap (λ (x : Figures). x .dearest) reported;
       none-dearer = M .no-chain-dearer;
       one-as-dear = M .a-chain-as-dear;
     }
@@ -101,23 +120,25 @@ pub cover-leaves-plan : (file starts processors scratch : List ℕ)
     × (coverCall file starts processors scratch .processors ≡ planCall file starts processors scratch .processors)
     × (coverCall file starts processors scratch .scratch ≡ planCall file starts processors scratch .scratch)
 unfolding coverCall planCall
-cover-leaves-plan file starts processors scratch = same-slices (readJob file) starts processors scratch
+cover-leaves-plan file starts processors scratch = same-slices NotCovered coverAnswer NotPlanned planAnswer file starts processors scratch
 
 -- what the program prints for the file is what the two calls, with any slices, leave and report
-pub printed-as-called : (file starts processors scratch : List ℕ) (m E : ℕ) → planCall file starts processors scratch .answer ≡ Plan m E
-    → (starts₂ processors₂ scratch₂ : List ℕ) (C D : ℕ) → coverCall file starts₂ processors₂ scratch₂ .answer ≡ Cover C D
+pub printed-as-called : (file starts processors scratch : List ℕ) (o : Outcome) → planCall file starts processors scratch .answer ≡ Plan o
+    → (starts₂ processors₂ scratch₂ : List ℕ) (f : Figures) → coverCall file starts₂ processors₂ scratch₂ .answer ≡ Cover f
     → (j : Job) × (readJob file ≡ accepted j)
-    × (listing file ≡ header (j .platform .processors) m (length (j .edges))
-    ++ (taskLines m (λ T. getD (planCall file starts processors scratch .processors) T 0) (λ T. getD (planCall file starts processors scratch .starts) T 0) (λ T. getD (j .tasks) T 0)
-    ++ figures E C D))
+    × (listing file ≡ header (j .platform .processors) (o .tasks) (length (j .edges))
+    ++ (taskLines (o .tasks) (λ T. getD (planCall file starts processors scratch .processors) T 0)
+    (λ T. getD (planCall file starts processors scratch .starts) T 0) (λ T. getD (j .tasks) T 0)
+    ++ figures (o .end) (f .cover) (f .dearest)))
 printed-as-called = prints-calls
 
--- ---- 00: "A plan brought in by anybody for an accepted job is accepted if it keeps the rules of the graph, the boards and the links and starts
--- nothing after tick 600,000,000, and refused if it breaks one."
+-- ---- 00: "A plan brought in by anybody for an accepted job is accepted if it keeps the rules of the graph, the boards and the links and
+-- starts nothing after tick 600,000,000, and refused if it breaks one."
 
 module _ (file : List ℕ) (j : Job) (e : readJob file ≡ accepted j) where
   pub checker-exactly : (starts processors : List ℕ) → tasks (instance j) ≤ length starts → tasks (instance j) ≤ length processors
-      → checkCall file starts processors ≡ Yes ↔ Keeps (instance j) (scheduleOf (instance j) (λ T. getD processors T 0) (λ T. getD starts T 0))
+      → checkCall file starts processors ≡ Yes
+      ↔ Keeps (instance j) (scheduleOf (instance j) (λ T. getD processors T 0) (λ T. getD starts T 0))
   checker-exactly = yes-keeps file j e
 
   -- from C, by the plan's bytes
@@ -126,11 +147,12 @@ module _ (file : List ℕ) (j : Job) (e : readJob file ≡ accepted j) where
   checker-exactly-bytes = zero-keeps file j e
 
 -- so it accepts the planner's own plan, whatever the slices or the bytes held before
-pub own-plan-accepted : (file starts processors scratch : List ℕ) (m E : ℕ) → planCall file starts processors scratch .answer ≡ Plan m E
+pub own-plan-accepted : (file starts processors scratch : List ℕ) (o : Outcome) → planCall file starts processors scratch .answer ≡ Plan o
     → checkCall file (planCall file starts processors scratch .starts) (planCall file starts processors scratch .processors) ≡ Yes
 own-plan-accepted = slices-accepted
 
-pub own-bytes-accepted : (file plan : List ℕ) → planBytesCall file plan .number ≡ 0 → checkBytesCall file (planBytesCall file plan .plan) ≡ 0
+pub own-bytes-accepted : (file plan : List ℕ) → planBytesCall file plan .number ≡ 0
+    → checkBytesCall file (planBytesCall file plan .plan) ≡ 0
 own-bytes-accepted = bytes-accepted
 
 -- ---- 00: "A job that the writer takes, written out and read, is the same job .."

@@ -1,91 +1,90 @@
 -- Demand 3 of the notice: how far from the best the planner's plan can be, by the numbers that the two calls return.
-use mathlib.Core.Path.{_≡_, ap, _∙_}
+use mathlib.Core.Path.{_≡_, refl, ap, _∙_}
 use mathlib.Core.List.{List}
 use Prim.Native.Nat.{ℕ, _+_, _*_, _-_, _≤_}
 use lib.ListN.{length}
 use Rattle.job.specs.Job.{Job}
 use Rattle.job.specs.Read.{accepted, readJob}
 use Rattle.job.specs.Accepted.{accepted-job}
-use Rattle.etf.specs.Schedule.{end}
-use Rattle.etf.specs.Rule.{planned}
-use Rattle.etf.specs.Cover.{cover}
-use Rattle.etf.specs.Dearest.{dearest}
 use Rattle.etf.specs.Ideal.{Ideal, makespan}
 use Rattle.etf.specs.OfJob.{instance}
 use Rattle.etf.specs.Jobs.{well-formed}
 use Rattle.etf.specs.WorstCase.{within, some-ideal}
 use Rattle.schedule.specs.declared.Planned.the-variants.{Plan}
 use Rattle.schedule.specs.declared.Covered.the-variants.{Cover}
-use Rattle.schedule.specs.Plan.{planCall}
-use Rattle.schedule.specs.Cover.{coverCall}
-use Rattle.demands.specs.Room.{HasRoom}
-use Rattle.demands.specs.Laws.Calls.{planned-as, covered-as, one-job}
-use Rattle.demands.specs.Laws.Refused.{plan-taken, cover-taken}
+use Rattle.schedule.specs.declared.Outcome.{Outcome}
+use Rattle.schedule.specs.declared.Figures.{Figures}
+use Rattle.schedule.specs.Plan.{endOf, outcome, planCall}
+use Rattle.schedule.specs.Cover.{figures, coverCall}
+use Rattle.schedule.specs.Lent.{HasRoom}
+use Rattle.schedule.specs.Answered.{one-job}
+use Rattle.demands.specs.Laws.Answers.{planned-as, outcome-is, covered-as, figures-is, plan-taken, cover-taken}
 
 -- what is promised of the numbers E, C and D that the calls report for a file
 pub record Promised (file : List ℕ) (E C D : ℕ) : Type 0 where
   -- the file is that of a job
   pub job : Job
   pub of-file : readJob file ≡ accepted job
-  -- for every ideal schedule of the job (01: a rival plan), whose messages take no time and whose starts are any natural numbers; F is its makespan
+  -- for every ideal schedule of the job (01: a rival plan), whose messages take no time and whose starts are any natural numbers; F is its
+  -- makespan
   pub end-within : (R : Ideal (instance job))
       → job .platform .processors * E ≤ (2 * job .platform .processors - 1) * makespan (instance job) R + job .platform .processors * C
   pub cover-within : C ≤ D
   -- and there is an ideal schedule
   pub some-schedule : Ideal (instance job)
 
--- 00: "Whatever job is accepted, and whatever plan a rival makes for it on the same n boards: if our plan ends at E, as the planner reports, and his
--- greatest finish is F, then n times E is at most (2n - 1) times F plus n times C, where C is the cover of our plan, as the cover call reports it; and C
--- is at most the dearest chain of messages in the job, reported beside it."
-pub worst-case : (file : List ℕ) (m E C D : ℕ)
-    -- the planner's call on the file reports E, with any slices
-    → (starts processors scratch : List ℕ) → planCall file starts processors scratch .answer ≡ Plan m E
-    -- the cover call on it reports C and D, with any slices
-    → (starts₂ processors₂ scratch₂ : List ℕ) → coverCall file starts₂ processors₂ scratch₂ .answer ≡ Cover C D
-    → Promised file E C D
-unfolding instance
-worst-case file m E C D starts processors scratch p starts₂ processors₂ scratch₂ c =
-    let P = planned-as file starts processors scratch m E p in
-    let Q = covered-as file starts₂ processors₂ scratch₂ C D c in
-    let same = one-job (Q .says) (P .says) in
-    bounds (P .job) (P .says) (P .end-is) (Q .cover-is ∙ ap (λ (i : Job). cover (instance i)) same) (Q .dearest-is ∙ ap (λ (i : Job). dearest (instance i)) same)
+-- 00: "Whatever job is accepted, and whatever plan a rival makes for it on the same n boards: if our plan ends at E, as the planner
+-- reports, and his greatest finish is F, then n times E is at most (2n - 1) times F plus n times C, where C is the cover of our plan, as
+-- the cover call reports it; and C is at most the dearest chain of messages in the job, reported beside it."
+pub worst-case : (file : List ℕ) (o : Outcome) (f : Figures)
+    -- the planner's call on the file reports o, with any slices; its end is E
+    → (starts processors scratch : List ℕ) → planCall file starts processors scratch .answer ≡ Plan o
+    -- the cover call on it reports f, with any slices; its cover is C and its dearest chain D
+    → (starts₂ processors₂ scratch₂ : List ℕ) → coverCall file starts₂ processors₂ scratch₂ .answer ≡ Cover f
+    → Promised file (o .end) (f .cover) (f .dearest)
+unfolding instance outcome endOf figures
+worst-case file o f starts processors scratch p starts₂ processors₂ scratch₂ c =
+    let P = planned-as file starts processors scratch o p in
+    let Q = covered-as file starts₂ processors₂ scratch₂ f c in
+    let same = ap (λ (i : Job). figures (instance i)) (one-job (Q .says) (P .says)) in
+    bounds (P .job) (P .says) (outcome-is file starts processors scratch P) (figures-is file starts₂ processors₂ scratch₂ Q ∙ same)
   where
-    bounds : (j : Job) → readJob file ≡ accepted j → E ≡ end (instance j) (planned (instance j)) → C ≡ cover (instance j) → D ≡ dearest (instance j)
-        → Promised file E C D
-    bounds j a e c d =
+    bounds : {o : Outcome} {f : Figures} (j : Job) → readJob file ≡ accepted j → o ≡ outcome (instance j) → f ≡ figures (instance j)
+        → Promised file (o .end) (f .cover) (f .dearest)
+    bounds j a e g =
         let W = well-formed j (accepted-job file j a) in
         let ideal = some-ideal (instance j) W .0 in
         record {
           job = j;
           of-file = a;
-          end-within = λ R. rw (e, c) (within (instance j) W R .end-within);
-          cover-within = rw (c, d) (within (instance j) W ideal .cover-within);
+          end-within = λ R. rw (e, g) (within (instance j) W R .end-within);
+          cover-within = rw g (within (instance j) W ideal .cover-within);
           some-schedule = ideal;
         }
 
 -- what both calls answer for a file of m tasks, each with slices of its own
 pub record Reported (file : List ℕ) (m : ℕ) (starts processors scratch starts₂ processors₂ scratch₂ : List ℕ) : Type 0 where
-  pub E : ℕ
-  pub C : ℕ
-  pub D : ℕ
-  pub planner-reports : planCall file starts processors scratch .answer ≡ Plan m E
-  pub cover-reports : coverCall file starts₂ processors₂ scratch₂ .answer ≡ Cover C D
-  pub promised : Promised file E C D
+  pub reported : Outcome
+  pub measured : Figures
+  pub of-tasks : reported .tasks ≡ m
+  pub planner-reports : planCall file starts processors scratch .answer ≡ Plan reported
+  pub cover-reports : coverCall file starts₂ processors₂ scratch₂ .answer ≡ Cover measured
+  pub promised : Promised file (reported .end) (measured .cover) (measured .dearest)
 
 -- 00: "Whatever job is accepted ..": with room in the slices both calls report, and what is promised holds of what they report
 pub accepted-job-within : (file : List ℕ) (j : Job) → readJob file ≡ accepted j
     → (starts processors scratch : List ℕ) → HasRoom (length (j .tasks)) starts processors scratch
     → (starts₂ processors₂ scratch₂ : List ℕ) → HasRoom (length (j .tasks)) starts₂ processors₂ scratch₂
     → Reported file (length (j .tasks)) starts processors scratch starts₂ processors₂ scratch₂
-unfolding instance
+unfolding instance outcome
 accepted-job-within file j e starts processors scratch r starts₂ processors₂ scratch₂ r₂ =
     let p = plan-taken file starts processors scratch (j, e, r) in
     let c = cover-taken file starts₂ processors₂ scratch₂ (j, e, r₂) in
     record {
-      E = end (instance j) (planned (instance j));
-      C = cover (instance j);
-      D = dearest (instance j);
+      reported = outcome (instance j);
+      measured = figures (instance j);
+      of-tasks = refl;
       planner-reports = p;
       cover-reports = c;
-      promised = worst-case file _ _ _ _ starts processors scratch p starts₂ processors₂ scratch₂ c;
+      promised = worst-case file _ _ starts processors scratch p starts₂ processors₂ scratch₂ c;
     }

@@ -1,4 +1,3 @@
-pub mod Room
 -- the demands of the notice, each in its file
 pub mod Demand1
 pub mod Demand2

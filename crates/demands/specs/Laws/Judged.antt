@@ -61,7 +61,8 @@ because-number (overlaps u v h g n e b c) = omega arith
 because-number (too-early e h u v g i a b c) = omega arith
 
 -- so a refusal's are 1 to 13
-refusal-number : (file : List ℕ) (Short : ℕ → Type 0) (processor start : ℕ → ℕ) (k : ℕ) → Refusal file Short processor start k → (1 ≤ k) × (k ≤ 13)
+refusal-number : (file : List ℕ) (Short : ℕ → Type 0) (processor start : ℕ → ℕ) (k : ℕ) → Refusal file Short processor start k
+    → (1 ≤ k) × (k ≤ 13)
 refusal-number file Short processor start k (inl e) = omega (arith, read-numbers file k e)
 refusal-number file Short processor start k (inr (j, e, inl (n, s))) = omega arith
 refusal-number file Short processor start k (inr (j, e, inr b)) = omega (arith, because-number b)
@@ -99,16 +100,19 @@ module _ (file starts processors : List ℕ) where
     where
       held : (j : Job) → readJob file ≡ accepted j → (b c : Bool)
           → ltb (length starts) (tasks (instance j)) ≡ b → ltb (length processors) (tasks (instance j)) ≡ c
-          → pick (b || c) (NotChecked 9) (checkedAs (checkOf (instance j) processor start)) ≡ NotChecked k → Refusal file ShortSlices processor start k
+          → pick (b || c) (NotChecked 9) (checkedAs (checkOf (instance j) processor start)) ≡ NotChecked k
+          → Refusal file ShortSlices processor start k
       held j e true c p q w = inr (j, e, inl (cc, inl (ltb-true _ _ p)))
       held j e false true p q w = inr (j, e, inl (cc, inr (ltb-true _ _ q)))
-      held j e false false p q w = inr (j, e, inr (said (instance j) processor start k (is-some (checkOf (instance j) processor start) k w)))
+      held j e false false p q w =
+          inr (j, e, inr (said (instance j) processor start k (is-some (checkOf (instance j) processor start) k w)))
 
       go : (a : Answer) → readJob file ≡ a → checkFor a starts processors ≡ NotChecked k → Refusal file ShortSlices processor start k
       go (refused n) e w = inl cc
       go (accepted j) e w = held j e (ltb (length starts) (tasks (instance j))) (ltb (length processors) (tasks (instance j))) refl refl w
 
-  pub check-answers : (checkCall file starts processors ≡ Yes) ⊎ ((k : ℕ) × (checkCall file starts processors ≡ NotChecked k) × (1 ≤ k) × (k ≤ 13))
+  pub check-answers : (checkCall file starts processors ≡ Yes)
+      ⊎ ((k : ℕ) × (checkCall file starts processors ≡ NotChecked k) × (1 ≤ k) × (k ≤ 13))
   check-answers = go (checkCall file starts processors) refl
     where
       go : (c : Checked) → checkCall file starts processors ≡ c → (c ≡ Yes) ⊎ ((k : ℕ) × (c ≡ NotChecked k) × (1 ≤ k) × (k ≤ 13))
@@ -126,10 +130,12 @@ module _ (file plan : List ℕ) where
   check-returns-number k l h = go (readJob file) refl h
     where
       held : (j : Job) → readJob file ≡ accepted j → (b : Bool) → ltb (length plan) (5 * tasks (instance j)) ≡ b
-          → pick b 9 (numberOf (checkOf (instance j) (processorIn plan) (startIn plan))) ≡ k → Refusal file ShortPlan (processorIn plan) (startIn plan) k
+          → pick b 9 (numberOf (checkOf (instance j) (processorIn plan) (startIn plan))) ≡ k
+          → Refusal file ShortPlan (processorIn plan) (startIn plan) k
       held j e true p w = inr (j, e, inl (cc, ltb-true _ _ p))
       held j e false p w =
-          inr (j, e, inr (said (instance j) (processorIn plan) (startIn plan) k (number-some (checkOf (instance j) (processorIn plan) (startIn plan)) k l w)))
+          let answered = number-some (checkOf (instance j) (processorIn plan) (startIn plan)) k l w in
+          inr (j, e, inr (said (instance j) (processorIn plan) (startIn plan) k answered))
 
       go : (a : Answer) → readJob file ≡ a → checkBytesFor a plan ≡ k → Refusal file ShortPlan (processorIn plan) (startIn plan) k
       go (refused n) e w = inl cc

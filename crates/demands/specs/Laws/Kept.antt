@@ -25,42 +25,52 @@ use Rattle.etf.specs.Chains.{none-dearer, one-as-dear}
 use Rattle.etf.specs.OfJob.{instance}
 use Rattle.etf.specs.Jobs.{well-formed}
 use Rattle.schedule.specs.declared.Checked.the-variants.{Yes}
-use Rattle.schedule.specs.Plan.{startOf, processorOf, planAccepted, planFor, planCall}
-use Rattle.schedule.specs.Cover.{coverAccepted, coverFor}
+use Rattle.schedule.specs.declared.Outcome.{Outcome}
+use Rattle.schedule.specs.declared.Figures.{Figures}
+use Rattle.schedule.specs.Call.{Call, startOf, processorOf, laidOut}
+use Rattle.schedule.specs.Plan.{planCall}
+use Rattle.schedule.specs.Cover.{figures}
 use Rattle.schedule.specs.Check.{checkOf, checkedAs, numberOf, checkFor, checkCall}
 use Rattle.kelvrist.specs.PlanBytes.{planBytes, processorIn, startIn, planBytesFor, planBytesCall, checkBytesFor, checkBytesCall}
 use Rattle.kelvrist.specs.Laws.Decoded.{processor-back, start-back}
 use Rattle.kelvrist.specs.Laws.OwnPlan.{start-fits}
-use Rattle.demands.specs.Room.{Short, HasRoom}
-use Rattle.demands.specs.Laws.Calls.{short-or-room, short-true, room-false, PlannedAs, CoveredAs}
+use Rattle.schedule.specs.Answered.{SlicesRefused, SlicesTaken, slices, callOf, call-refused, call-taken}
+use Rattle.demands.specs.Laws.Answers.{PlannedAs, CoveredAs, figures-is}
 
 -- ---- the planner's slices
 
 -- after an acceptance each task's place holds the rule's start and processor
-pub slices-hold : {file starts processors scratch : List ℕ} {m E : ℕ} (P : PlannedAs file starts processors scratch m E) (T : ℕ) → T < m
+pub slices-hold : {file starts processors scratch : List ℕ} {o : Outcome} (P : PlannedAs file starts processors scratch o) (T : ℕ)
+    → T < tasks (instance (P .job))
     → (getD (planCall file starts processors scratch .starts) T 0 ≡ placementOf (planned (instance (P .job))) T .start)
     × (getD (planCall file starts processors scratch .processors) T 0 ≡ placementOf (planned (instance (P .job))) T .processor)
-unfolding planAccepted startOf processorOf
-slices-hold {starts = starts} {processors = processors} P T h =
+unfolding planCall laidOut startOf processorOf
+slices-hold {starts = starts} {processors = processors} P T b =
     let I = instance (P .job) in
-    let b : T < tasks I = omega (arith, P .tasks-are) in
     rw (P .call-is) (filled-at (startOf I) (tasks I) starts T b, filled-at (processorOf I) (tasks I) processors T b)
 
--- the cover call leaves what the planner leaves, whatever the reader's answer
-pub same-slices : (a : Answer) (starts processors scratch : List ℕ)
-    → (coverFor a starts processors scratch .starts ≡ planFor a starts processors scratch .starts)
-    × (coverFor a starts processors scratch .processors ≡ planFor a starts processors scratch .processors)
-    × (coverFor a starts processors scratch .scratch ≡ planFor a starts processors scratch .scratch)
-unfolding coverFor planFor coverAccepted planAccepted
-same-slices (accepted j) starts processors scratch = go (short-or-room (tasks (instance j)) starts processors scratch)
-  where
-    go : Short (tasks (instance j)) starts processors scratch ⊎ HasRoom (tasks (instance j)) starts processors scratch
-        → (coverFor (accepted j) starts processors scratch .starts ≡ planFor (accepted j) starts processors scratch .starts)
-        × (coverFor (accepted j) starts processors scratch .processors ≡ planFor (accepted j) starts processors scratch .processors)
-        × (coverFor (accepted j) starts processors scratch .scratch ≡ planFor (accepted j) starts processors scratch .scratch)
-    go (inl s) = rw (short-true (tasks (instance j)) starts processors scratch s) (refl, refl, refl)
-    go (inr f) = rw (room-false (tasks (instance j)) starts processors scratch f) (refl, refl, refl)
-same-slices (refused k) starts processors scratch = (refl, refl, refl)
+-- two calls on the same slices leave the same in them, whatever they answer
+module _ {A B : Type 0} (refuse : ℕ → A) (answer : Instance → A) (refuse₂ : ℕ → B) (answer₂ : Instance → B)
+    (file starts processors scratch : List ℕ) where
+  abbrev first : Call A
+  first = callOf file starts processors scratch refuse answer
+
+  abbrev second : Call B
+  second = callOf file starts processors scratch refuse₂ answer₂
+
+  pub same-slices : (first .starts ≡ second .starts) × (first .processors ≡ second .processors) × (first .scratch ≡ second .scratch)
+  unfolding laidOut
+  same-slices = go (slices file starts processors scratch)
+    where
+      go : ((k : ℕ) × SlicesRefused file starts processors scratch k) ⊎ SlicesTaken file starts processors scratch
+          → (first .starts ≡ second .starts) × (first .processors ≡ second .processors) × (first .scratch ≡ second .scratch)
+      go (inl (k, r)) =
+          let a = call-refused file starts processors scratch refuse answer k r in
+          let b = call-refused file starts processors scratch refuse₂ answer₂ k r in
+          rw (a, b) (refl, refl, refl)
+      go (inr a) =
+          rw (call-taken file starts processors scratch refuse answer a, call-taken file starts processors scratch refuse₂ answer₂ a)
+          (refl, refl, refl)
 
 -- ---- the cover call's two numbers
 
@@ -70,13 +80,19 @@ pub record Measured (I : Instance) (D : ℕ) : Type 0 where
   pub no-chain-dearer : (es : List Edge) → Chain I es → price I es ≤ D
   pub a-chain-as-dear : (es : List Edge) × Chain I es × (price I es ≡ D)
 
-pub measured : {file starts processors scratch : List ℕ} {C D : ℕ} (Q : CoveredAs file starts processors scratch C D) → Measured (instance (Q .job)) D
-measured {file = file} Q =
+pub measured : {file starts processors scratch : List ℕ} {f : Figures} (Q : CoveredAs file starts processors scratch f)
+    → Measured (instance (Q .job)) (f .dearest)
+unfolding figures
+measured {file = file} {starts} {processors} {scratch} {f} Q =
     let I = instance (Q .job) in
     let W = well-formed (Q .job) (accepted-job file (Q .job) (Q .says)) in
-    let d = Q .dearest-is in
+    let d = ap (λ (g : Figures). g .dearest) (figures-is file starts processors scratch Q) in
     let top = one-as-dear I in
-    record { walk-is = cover-walk I W; no-chain-dearer = λ es c. omega (arith, d, none-dearer I W es c); a-chain-as-dear = (top .0, top .1, top .2 ∙ sym d) }
+    record {
+      walk-is = cover-walk I W;
+      no-chain-dearer = λ es c. omega (arith, d, none-dearer I W es c);
+      a-chain-as-dear = (top .0, top .1, top .2 ∙ sym d);
+    }
 
 -- ---- the plan's bytes
 
@@ -84,8 +100,10 @@ measured {file = file} Q =
 pub record BytesAs (file plan : List ℕ) : Type 0 where
   pub job : Job
   pub says : readJob file ≡ accepted job
-  pub starts-hold : (T : ℕ) → T < tasks (instance job) → startIn (planBytesCall file plan .plan) T ≡ placementOf (planned (instance job)) T .start
-  pub processors-hold : (T : ℕ) → T < tasks (instance job) → processorIn (planBytesCall file plan .plan) T ≡ placementOf (planned (instance job)) T .processor
+  pub starts-hold : (T : ℕ) → T < tasks (instance job)
+      → startIn (planBytesCall file plan .plan) T ≡ placementOf (planned (instance job)) T .start
+  pub processors-hold : (T : ℕ) → T < tasks (instance job)
+      → processorIn (planBytesCall file plan .plan) T ≡ placementOf (planned (instance job)) T .processor
 
 pub bytes-as : (file plan : List ℕ) → planBytesCall file plan .number ≡ 0 → BytesAs file plan
 unfolding planBytesCall planBytesFor startOf processorOf
@@ -100,7 +118,9 @@ bytes-as file plan h = go (readJob file) refl h
         record {
           job = j;
           says = e;
-          starts-hold = λ T b. rw full (start-back (tasks I) (processorOf I) (startOf I) (drop (5 * tasks I) plan) T b (start-fits j (accepted-job file j e) T b));
+          starts-hold = λ T b.
+              let fits = start-fits j (accepted-job file j e) T b in
+              rw full (start-back (tasks I) (processorOf I) (startOf I) (drop (5 * tasks I) plan) T b fits);
           processors-hold = λ T b. rw full (processor-back (tasks I) (processorOf I) (startOf I) (drop (5 * tasks I) plan) T b);
         }
     held j e (inr p) w = let v : _≡_ {A = ℕ} 9 0 = rw (lt-ltb (length plan) (5 * tasks (instance j)) p) at w in absurd (omega arith)
@@ -136,7 +156,8 @@ zero-none I ps e = go (check I ps) refl e
 module _ (file : List ℕ) (j : Job) (e : readJob file ≡ accepted j) where
   -- where the slices have room, the checker's call is a yes exactly if the rules hold
   pub yes-keeps : (starts processors : List ℕ) → tasks (instance j) ≤ length starts → tasks (instance j) ≤ length processors
-      → checkCall file starts processors ≡ Yes ↔ Keeps (instance j) (scheduleOf (instance j) (λ T. getD processors T 0) (λ T. getD starts T 0))
+      → checkCall file starts processors ≡ Yes
+      ↔ Keeps (instance j) (scheduleOf (instance j) (λ T. getD processors T 0) (λ T. getD starts T 0))
   unfolding checkCall checkFor checkOf checkedAs
   yes-keeps starts processors s p =
       let ps = scheduleOf (instance j) (λ T. getD processors T 0) (λ T. getD starts T 0) in
@@ -151,6 +172,7 @@ module _ (file : List ℕ) (j : Job) (e : readJob file ≡ accepted j) where
   unfolding checkBytesCall checkBytesFor checkOf numberOf
   zero-keeps plan l =
       let ps = scheduleOf (instance j) (processorIn plan) (startIn plan) in
-      let call : checkBytesCall file plan ≡ numberOf (check (instance j) ps) = rw (e, checkBytesFor, le-ltb (length plan) (5 * tasks (instance j)) l) in
+      let call : checkBytesCall file plan ≡ numberOf (check (instance j) ps) =
+      rw (e, checkBytesFor, le-ltb (length plan) (5 * tasks (instance j)) l) in
       let y = yes-exactly (instance j) ps in
       ((λ h. y .0 (zero-none (instance j) ps (sym call ∙ h))), (λ k. call ∙ ap numberOf (y .1 k)))

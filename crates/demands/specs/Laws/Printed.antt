@@ -3,7 +3,6 @@ use mathlib.Core.Logic.{_⊎_, inl, inr}
 use mathlib.Core.Path.{_≡_, refl, ap, sym, _∙_}
 use mathlib.Core.List.{List, _++_}
 use Prim.Native.Nat.{ℕ, _≤_}
-use native.Mathlib.Omega.{arith}
 use lib.ListN.{length, getD}
 use Rattle.job.specs.Job.{Job}
 use Rattle.job.specs.Read.{Answer, accepted, refused, readJob}
@@ -14,11 +13,16 @@ use Rattle.etf.specs.Dearest.{dearest}
 use Rattle.etf.specs.OfJob.{instance}
 use Rattle.schedule.specs.declared.Planned.the-variants.{Plan}
 use Rattle.schedule.specs.declared.Covered.the-variants.{Cover}
-use Rattle.schedule.specs.Plan.{startOf, processorOf, planCall}
+use Rattle.schedule.specs.declared.Outcome.{Outcome}
+use Rattle.schedule.specs.declared.Figures.{Figures}
+use Rattle.schedule.specs.Call.{startOf, processorOf}
+use Rattle.schedule.specs.Plan.{endOf, outcome, planCall}
 use Rattle.schedule.specs.Cover.{coverCall}
+use Rattle.schedule.specs.Cover.{figures as figuresOf}
 use Rattle.listing.specs.Listing.{refusalLine, header, taskLines, figures, planListing, listingFor, listing}
 use Rattle.listing.specs.Laws.Listed.{header-same, lines-same, listing-same}
-use Rattle.demands.specs.Laws.Calls.{planned-as, covered-as, one-job}
+use Rattle.schedule.specs.Answered.{one-job}
+use Rattle.demands.specs.Laws.Answers.{planned-as, outcome-is, covered-as, figures-is}
 use Rattle.demands.specs.Laws.Kept.{slices-hold}
 
 pub prints : (file : List ℕ) → ((j : Job) × (readJob file ≡ accepted j) × (listing file ≡ planListing (instance j)))
@@ -32,22 +36,35 @@ prints file = go (readJob file) refl (λ k e. read-numbers file k e)
     go (accepted j) e n = inl (j, e, refl)
     go (refused k) e n = inr (k, e, n k e .0, n k e .1, refl)
 
-module _ (file starts processors scratch : List ℕ) (m E : ℕ) (p : planCall file starts processors scratch .answer ≡ Plan m E) where
+module _ (file starts processors scratch : List ℕ) (o : Outcome) (p : planCall file starts processors scratch .answer ≡ Plan o) where
   abbrev start : ℕ → ℕ
   start T = getD (planCall file starts processors scratch .starts) T 0
 
   abbrev processor : ℕ → ℕ
   processor T = getD (planCall file starts processors scratch .processors) T 0
 
-  pub prints-calls : (starts₂ processors₂ scratch₂ : List ℕ) (C D : ℕ) → coverCall file starts₂ processors₂ scratch₂ .answer ≡ Cover C D
+  pub prints-calls : (starts₂ processors₂ scratch₂ : List ℕ) (f : Figures) → coverCall file starts₂ processors₂ scratch₂ .answer ≡ Cover f
       → (j : Job) × (readJob file ≡ accepted j)
-      × (listing file ≡ header (j .platform .processors) m (length (j .edges)) ++ (taskLines m processor start (λ T. getD (j .tasks) T 0) ++ figures E C D))
-  unfolding listing listingFor planListing instance duration startOf processorOf
-  prints-calls starts₂ processors₂ scratch₂ C D c =
-      let P = planned-as file starts processors scratch m E p in
-      let Q = covered-as file starts₂ processors₂ scratch₂ C D c in
-      let same = one-job (Q .says) (P .says) in
-      let first : header (P .job .platform .processors) m (length (P .job .edges)) ≡ header (P .job .platform .processors) (length (P .job .tasks)) (length (P .job .edges)) = header-same refl (P .tasks-are) refl in
-      let lines : taskLines m processor start (λ T. getD (P .job .tasks) T 0) ≡ taskLines (length (P .job .tasks)) (processorOf (instance (P .job))) (startOf (instance (P .job))) (duration (instance (P .job)))
-      = lines-same _ _ _ _ _ _ (P .tasks-are) (λ T h. slices-hold P T (omega (arith, P .tasks-are)) .1) (λ T h. slices-hold P T (omega (arith, P .tasks-are)) .0) (λ T h. refl) in
-      (P .job, P .says, ap listingFor (P .says) ∙ sym (listing-same first lines (P .end-is) (Q .cover-is ∙ ap (λ (i : Job). cover (instance i)) same) (Q .dearest-is ∙ ap (λ (i : Job). dearest (instance i)) same)))
+      × (listing file ≡ header (j .platform .processors) (o .tasks) (length (j .edges))
+      ++ (taskLines (o .tasks) processor start (λ T. getD (j .tasks) T 0) ++ figures (o .end) (f .cover) (f .dearest)))
+  unfolding listing listingFor planListing instance duration startOf processorOf outcome endOf figuresOf
+  prints-calls starts₂ processors₂ scratch₂ f c =
+      let P = planned-as file starts processors scratch o p in
+      let Q = covered-as file starts₂ processors₂ scratch₂ f c in
+      let j = P .job in
+      let planned-so = outcome-is file starts processors scratch P in
+      let covered-so = figures-is file starts₂ processors₂ scratch₂ Q in
+      let same : figuresOf (instance (Q .job)) ≡ figuresOf (instance j) =
+      ap (λ (i : Job). figuresOf (instance i)) (one-job (Q .says) (P .says)) in
+      let m-is : o .tasks ≡ length (j .tasks) = ap (λ (x : Outcome). x .tasks) planned-so in
+      let first : header (j .platform .processors) (o .tasks) (length (j .edges))
+      ≡ header (j .platform .processors) (length (j .tasks)) (length (j .edges)) = header-same refl m-is refl in
+      let lines : taskLines (o .tasks) processor start (λ T. getD (j .tasks) T 0)
+      ≡ taskLines (length (j .tasks)) (processorOf (instance j)) (startOf (instance j)) (duration (instance j)) =
+      lines-same _ _ _ _ _ _ m-is (λ T h. slices-hold P T h .1) (λ T h. slices-hold P T h .0) (λ T h. refl) in (
+        j,
+        P .says,
+        ap listingFor (P .says)
+            ∙ sym (listing-same first lines (ap (λ (x : Outcome). x .end) planned-so) (ap (λ (x : Figures). x .cover) (covered-so ∙ same))
+            (ap (λ (x : Figures). x .dearest) (covered-so ∙ same))),
+      )
