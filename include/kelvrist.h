@@ -48,7 +48,7 @@
  *   length is 0.
  * - The bytes of the job and of the plan do not overlap, and nobody else writes to them during a call,
  *   nor reads the plan that kelvrist_plan is filling.
- * - The stack has room: kelvrist_plan takes about 35 KB, kelvrist_check about 14 KB.
+ * - The stack has room: kelvrist_plan takes about 36 KB, kelvrist_check about 14 KB.
  *
  * The library takes nothing from the heap, has no global data and keeps nothing between calls: calls
  * may run at the same time in different threads. Of the C library it needs memcpy and memset alone. It
