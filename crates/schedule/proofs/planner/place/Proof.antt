@@ -53,7 +53,7 @@ put-requires : tie.Need-put-requires
 put-requires c κs =
     let asked = c .before .before .before .before .before .before .before .before .before .before .before .before .before .pre in (
       (asked .has-start, asked .has-processor, waiting-room asked),
-      (omega (arith, asked .processor-below, asked .busy-size), asked .processor-below),
+      (omega (arith, asked .processor-below, asked .busy-size), omega (arith, asked .processor-below)),
     )
 
 send-requires : tie.Need-send-requires
