@@ -25,10 +25,10 @@ module _ {pair : Pair} {finish first last low m n : ℕ} {row to counts starts p
     module _ {starts₁ processors₁ busy₁ : List ℕ} (starts-are : starts₁ ≡ set starts (pair .task) (pair .start))
         (processors-are : processors₁ ≡ set processors (pair .task) (pair .processor))
         (busy-are : busy₁ ≡ set busy (pair .processor) finish) where
-      together : {arrivals₂ waiting₂ latest₂ : List ℕ} {r : ℕ}
+      together : {order : ℕ → ℕ} {arrivals₂ waiting₂ latest₂ : List ℕ} {r : ℕ}
           → Sent first last finish n row to counts (inbox arrivals waiting₁ latest) (inbox arrivals₂ waiting₂ latest₂)
-          → Skipped waiting₂ (λ i. i) low m r
-          → Placed pair finish first last low m n (λ i. i) row to counts (tables starts processors busy (inbox arrivals waiting latest))
+          → Skipped waiting₂ order low m r
+          → Placed pair finish first last low m n order row to counts (tables starts processors busy (inbox arrivals waiting latest))
           (tables starts₁ processors₁ busy₁ (inbox arrivals₂ waiting₂ latest₂)) r
       together s z = record {
         starts-are = starts-are;
