@@ -10,14 +10,14 @@ use Rattle.job.specs.Job.{Job}
 use Rattle.job.specs.Accepted.{Accepted}
 use Rattle.etf.specs.Instance.{Instance, WellFormed, tasks}
 use Rattle.etf.specs.Schedule.{Placement, finish, arrival, end, byTask}
-use Rattle.etf.specs.Rule.{begin, run, planned}
+use Rattle.etf.specs.Rule.{planned}
 use Rattle.etf.specs.Dearest.{dearest}
 use Rattle.etf.specs.Checker.{Keeps, check}
 use Rattle.etf.specs.Topology.{cost}
 use Rattle.etf.specs.OfJob.{instance}
 use Rattle.etf.specs.Bounds.{mostCost, mostMessageTime, mostFinish}
 use Rattle.etf.specs.Laws.Costs.{cost-most}
-use Rattle.etf.specs.Laws.Times.{finish-after, finish-most, last-most, arrival-most}
+use Rattle.etf.specs.Laws.Times.{finish-most, last-most, arrival-most}
 use Rattle.etf.specs.Laws.Checker.{keeps-yes, planned-keeps}
 use Rattle.etf.specs.Laws.Dearest.{dearest-free}
 use Rattle.etf.specs.Laws.OfJob.{of-job, few, short-tasks, near-processors, laid-out, one-processor}
@@ -47,11 +47,6 @@ module _ (j : Job) (a : Accepted j) where
   pub no-finish-passes : (u : Placement) → u ∈ planned I → finish I u ≤ mostFinish
   no-finish-passes u h =
       omega (arith, finish-most I well-formed mostDuration mostMessageTime (short-tasks j a) (near-processors j a) u h, few j a)
-
-  -- after any number of rounds, too
-  pub no-finish-passes-after : (k : ℕ) (u : Placement) → u ∈ run I k begin .placements → finish I u ≤ mostFinish
-  no-finish-passes-after k u h =
-      omega (arith, finish-after I well-formed mostDuration mostMessageTime (short-tasks j a) (near-processors j a) k u h, few j a)
 
   -- nor the end
   pub no-end-passes : end I (planned I) ≤ mostFinish

@@ -5,7 +5,7 @@ use mathlib.Core.Logic.{_⊎_, inl, inr}
 use Prim.Native.Nat.{ℕ, suc, _+_, _-_, _*_, _≤_, _<_}
 use native.Mathlib.Omega.{arith}
 use native.Mathlib.Nat.{mul-le-mul-left}
-use Rattle.base.specs.Lists.{upto, greatest}
+use Rattle.base.specs.Lists.{upto}
 use Rattle.base.specs.Rows.{sum}
 use Rattle.base.specs.Laws.Tests.{le-or-lt}
 use Rattle.base.specs.Laws.Lists.{greatest-ge, greatest-at, upto-in, upto-of}
@@ -101,8 +101,3 @@ module _ (I : Instance) (W : WellFormed I) where
           let z = greatest-at (λ T. placementOf (planned I) T .start + duration I T) (upto (tasks I)) (lastFinish I (planned I)) b in
           let h = upto-of (tasks I) (z .0) (z .1) in
           absurd (omega (arith, z .2, by-last I W (z .0) h, ap (duration I) (home I W (z .0) h .1)))
-
-  -- the end, as the greatest finish by task number
-  pub last-by-task : greatest (λ T. placementOf (planned I) T .start + duration I T) (upto (tasks I)) ≡ lastFinish I (planned I)
-  unfolding makespan own-ideal
-  last-by-task = own-makespan

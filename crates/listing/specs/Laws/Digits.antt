@@ -9,7 +9,7 @@ use lib.Dec.{ltb}
 use lib.ListN.{length, set, drop, length-set, length-append, drop-of-length-le}
 use lib.Seq.{drop-cons, drop-set-lt, getD-set-same, lt-length-set}
 use Rattle.base.specs.Choice.{pick}
-use Rattle.listing.specs.Listing.{digits, decimal, field, line}
+use Rattle.listing.specs.Listing.{digits, decimal, field}
 
 -- a place that was set, and those after it
 drop-of-set : (l : List ℕ) (i v : ℕ) → i < length l → drop i (set l i v) ≡ v ∷ drop (suc i) l
@@ -82,7 +82,3 @@ decimal-length x = digits-length 10 x
 pub field-length : (x next : ℕ) → length (field x next) ≤ 11
 unfolding field
 field-length x next = omega (arith, decimal-length x, length-append (decimal x) (next ∷ []))
-
-pub line-length : (word : List ℕ) (x : ℕ) → length (line word x) ≤ length word + 11
-unfolding line
-line-length word x = omega (arith, field-length x 10, length-append word (field x 10))
