@@ -22,8 +22,8 @@ free-below busy n clock free r s h i k =
     omega (arith, upto-of n (getD free i 0) (filter-of _ (upto n) (getD free i 0) a .0))
 
 -- the survey is of the n processors, and the search goes by what it lists
-looked : {order : ℕ → ℕ} {busy free : List ℕ} {B : Inbox} {n k clock low m : ℕ} {s : Moment} {r : Choice} → Surveyed busy k clock free s → k ≡ n
-    → r .next ≡ s .next
+looked : {order : ℕ → ℕ} {busy free : List ℕ} {B : Inbox} {n k clock low m : ℕ} {s : Moment} {r : Choice}
+    → Surveyed busy k clock free s → k ≡ n → r .next ≡ s .next
     → r .pair ≡ searched clock (B .waiting) (B .latest) order (rowOf clock (B .arrivals) free (s .free)) low (m - low) noPair
     → Looked clock low m n order B busy r
 looked {busy = busy} {clock = clock} surveyed e next found = record {
