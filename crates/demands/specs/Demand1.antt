@@ -12,7 +12,7 @@ use Rattle.job.specs.declared.Written.the-variants.{Length, Refused as NotWritt
 use Rattle.job.specs.Job.{Job}
 use Rattle.job.specs.Record.{kindOf}
 use Rattle.job.specs.Read.{accepted, refused, readJob, readingOf}
-use Rattle.job.specs.Cause.{Cause, Reached}
+use Rattle.job.specs.Cause.{Cause, ReaderNumber, Reached}
 use Rattle.job.specs.Write.{fileOf, heldJob, Held, writeAnswer, writeOut}
 use Rattle.job.specs.Refusal.{read-refused, write-refused}
 use Rattle.etf.specs.Instance.{tasks}
@@ -24,10 +24,10 @@ use Rattle.schedule.specs.declared.Covered.the-variants.{Cover, Refused as NotC
 use Rattle.schedule.specs.declared.Checked.the-variants.{Yes, Refused as NotChecked}
 use Rattle.schedule.specs.declared.Outcome.{Outcome}
 use Rattle.schedule.specs.declared.Figures.{Figures}
-use Rattle.schedule.specs.Call.{called}
+use Rattle.schedule.specs.Call.{called, CallNumber}
 use Rattle.schedule.specs.Plan.{planCall}
 use Rattle.schedule.specs.Cover.{coverCall}
-use Rattle.schedule.specs.Check.{checkFor, checkCall}
+use Rattle.schedule.specs.Check.{CheckerNumber, checkFor, checkCall}
 use Rattle.job.specs.Accepted.{refused-is}
 use Rattle.kelvrist.specs.PlanBytes.{returned, processorIn, startIn, planBytesCall, checkBytesCall}
 use Rattle.kelvrist.specs.Numbers.{check-passes-on}
@@ -42,9 +42,9 @@ use Rattle.demands.specs.Laws.Refused.{bytes-answered, bytes-number, byt
 -- ---- 00: "The answer to every job file .. is an acceptance or one of the refusal numbers of document 01, whatever the bytes."
 
 module _ (file : List ℕ) where
-  -- the reader accepts, or refuses by 1 to 8
+  -- the reader accepts, or refuses by one of its numbers
   pub reader-answers : ((m l : ℕ) × (readingOf (readJob file) .verdict ≡ Counts m l))
-      ⊎ ((k : ℕ) × (readingOf (readJob file) .verdict ≡ NotRead k) × (1 ≤ k) × (k ≤ 8))
+      ⊎ ((k : ℕ) × (readingOf (readJob file) .verdict ≡ NotRead k) × ReaderNumber k)
   reader-answers = read-answers file
 
   -- by a number only with its condition: at a place that it comes to past records without trouble the file ends (1), or a record has the
@@ -54,15 +54,15 @@ module _ (file : List ℕ) where
       × (((length file ≤ at) × (k ≡ 1)) ⊎ ((at < length file) × Cause (drop (suc at) file) j (kindOf (getD file at 0)) k))
   reader-refuses k e = read-refused file k (refused-is (readJob file) e)
 
-  -- the program prints a plan, or the reader's number, 1 to 8, and nothing else
+  -- the program prints a plan, or the reader's number, and nothing else
   pub program-answers : ((j : Job) × (readJob file ≡ accepted j) × (listing file ≡ planListing (instance j)))
-      ⊎ ((k : ℕ) × (readJob file ≡ refused k) × (1 ≤ k) × (k ≤ 8) × (listing file ≡ refusalLine k))
+      ⊎ ((k : ℕ) × (readJob file ≡ refused k) × ReaderNumber k × (listing file ≡ refusalLine k))
   program-answers = prints file
 
   module _ (starts processors scratch : List ℕ) where
-    -- the planner accepts, or refuses by 1 to 9
+    -- the planner accepts, or refuses by one of the reader's numbers or 9
     pub planner-answers : ((o : Outcome) × (planCall file starts processors scratch .answer ≡ Plan o))
-        ⊎ ((k : ℕ) × (planCall file starts processors scratch .answer ≡ NotPlanned k) × (1 ≤ k) × (k ≤ 9))
+        ⊎ ((k : ℕ) × (planCall file starts processors scratch .answer ≡ NotPlanned k) × CallNumber k)
     planner-answers = plan-answered file starts processors scratch
 
     -- by the reader's number for the file, or by 9 for a slice that is too short for an accepted job, and then only
@@ -72,9 +72,9 @@ module _ (file : List ℕ) where
         × ((length starts < tasks (instance j)) ⊎ ((length processors < tasks (instance j)) ⊎ (length scratch < 4096)))))
     planner-refuses k = (plan-cause file starts processors scratch k, plan-number file starts processors scratch k)
 
-    -- the cover call accepts, or refuses by 1 to 9
+    -- the cover call accepts, or refuses by one of them
     pub cover-answers : ((f : Figures) × (coverCall file starts processors scratch .answer ≡ Cover f))
-        ⊎ ((k : ℕ) × (coverCall file starts processors scratch .answer ≡ NotCovered k) × (1 ≤ k) × (k ≤ 9))
+        ⊎ ((k : ℕ) × (coverCall file starts processors scratch .answer ≡ NotCovered k) × CallNumber k)
     cover-answers = cover-answered file starts processors scratch
 
     -- where the planner does, and then only (01: "it refuses as the planner does")
@@ -82,8 +82,8 @@ module _ (file : List ℕ) where
         → coverCall file starts processors scratch .answer ≡ NotCovered k ↔ planCall file starts processors scratch .answer ≡ NotPlanned k
     cover-refuses k = (plan-as-cover file starts processors scratch k, cover-as-plan file starts processors scratch k)
 
-  -- the planner from C returns 0, or 1 to 9
-  pub planner-returns : (plan : List ℕ) → planBytesCall file plan .number ≤ 9
+  -- the planner from C returns 0, or one of the planner's numbers
+  pub planner-returns : (plan : List ℕ) → (planBytesCall file plan .number ≡ 0) ⊎ CallNumber (planBytesCall file plan .number)
   planner-returns plan = bytes-answered file plan
 
   -- the reader's number for the file, or 9 for a plan too short for an accepted job, and then only
@@ -91,11 +91,11 @@ module _ (file : List ℕ) where
       ↔ ((readJob file ≡ refused k) ⊎ ((k ≡ 9) × (j : Job) × (readJob file ≡ accepted j) × (length plan < 5 * tasks (instance j))))
   planner-returns-number plan k h = (bytes-cause file plan k h, bytes-number file plan k)
 
-  -- ---- 00: ".. and to every plan handed in for checking ..": the checker accepts, or refuses by 1 to 13, each only with its condition
+  -- ---- 00: ".. and to every plan handed in for checking ..": the checker accepts, or refuses by its numbers, each only with its condition
 
   module _ (starts processors : List ℕ) where
     pub checker-answers : (checkCall file starts processors ≡ Yes)
-        ⊎ ((k : ℕ) × (checkCall file starts processors ≡ NotChecked k) × (1 ≤ k) × (k ≤ 13))
+        ⊎ ((k : ℕ) × (checkCall file starts processors ≡ NotChecked k) × CheckerNumber k)
     checker-answers = check-answers file starts processors
 
     -- the reader's number for the file, 9 for a slice too short for an accepted job, or 10 to 13 for a plan that breaks that number's rule
@@ -111,8 +111,8 @@ module _ (file : List ℕ) where
     unfolding checkCall checkFor
     checker-passes-on k e = rw e
 
-  -- the checker from C
-  pub checker-returns : (plan : List ℕ) → checkBytesCall file plan ≤ 13
+  -- the checker from C returns 0, or one of the checker's numbers
+  pub checker-returns : (plan : List ℕ) → (checkBytesCall file plan ≡ 0) ⊎ CheckerNumber (checkBytesCall file plan)
   checker-returns = check-returns file
 
   -- each number but 0 only with its condition, and a refused file's own is returned

@@ -21,6 +21,10 @@ pub data Cause (rest : List ℕ) (j : Job) : Option Kind → ℕ → Type 0 wher
   not-above : Holds (not (aboveLast (j .edges) (edgeIn rest))) → Cause rest j (some link) 7
   bytes-after : Holds (not (empty rest)) → Cause rest j (some end) 8
 
+-- the reader's numbers (01: the refusal table): 1 to 8
+unfoldable pub ReaderNumber : ℕ → Type 0
+ReaderNumber n = (1 ≤ n) × (n ≤ 8)
+
 -- a record of kind k without trouble, with `rest` after its kind byte, after the job so far
 pub record Untroubled (rest : List ℕ) (j : Job) (k : Kind) : Type 0 where
   pub placed : Holds (stands j k)

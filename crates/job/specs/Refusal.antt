@@ -12,10 +12,10 @@ use Rattle.job.specs.Job.{Job}
 use Rattle.job.specs.Limits.{mostTasks, mostEdges}
 use Rattle.job.specs.Record.{kindOf}
 use Rattle.job.specs.Read.{refused, readJob}
-use Rattle.job.specs.Cause.{Cause, Reached}
+use Rattle.job.specs.Cause.{Cause, ReaderNumber, Reached}
 use Rattle.job.specs.Write.{fileOf, heldJob, Held, writeAnswer}
 use Rattle.job.specs.Laws.Met.{writer-numbers}
-use Rattle.job.specs.Laws.Halt.{halts-at, cause-number, many-counts, count-refused, room-refused}
+use Rattle.job.specs.Laws.Halt.{halts-at, reader-number, cause-number, many-counts, count-refused, room-refused}
 
 -- the reader refuses at a place that it comes to with the job so far: there the file ends (1), or the record has the number's cause
 pub read-refused : (file : List ℕ) (n : ℕ) → readJob file ≡ refused n →
@@ -23,9 +23,14 @@ pub read-refused : (file : List ℕ) (n : ℕ) → readJob file ≡ refused n �
     × (((length file ≤ at) × (n ≡ 1)) ⊎ ((at < length file) × Cause (drop (suc at) file) j (kindOf (getD file at 0)) n))
 read-refused file n e = halts-at file n e
 
--- the reader's numbers are 1 to 8
-pub read-numbers : (file : List ℕ) (n : ℕ) → readJob file ≡ refused n → (1 ≤ n) × (n ≤ 8)
-read-numbers file n e = ⊎-elim (λ h. omega arith) (λ h. cause-number (h .1)) (read-refused file n e .3)
+-- the reader refuses by its numbers, ..
+pub read-numbers : (file : List ℕ) (n : ℕ) → readJob file ≡ refused n → ReaderNumber n
+read-numbers file n e = ⊎-elim (λ h. reader-number (omega arith)) (λ h. cause-number (h .1)) (read-refused file n e .3)
+
+-- .. and 0 is none of them
+pub reader-number-some : {n : ℕ} → ReaderNumber n → 1 ≤ n
+unfolding ReaderNumber
+reader-number-some h = h .0
 
 -- the writer refuses with 5 for a count too large, with the reader's number for the job's file, or with 9 for too little room
 pub write-refused : (m l n : ℕ) (j : Job) (out : List ℕ) → writeAnswer m l j out ≡ Refused n →

@@ -5,7 +5,7 @@ use Prim.Native.Nat.{ℕ}
 use native.Mathlib.Omega.{arith}
 use Rattle.job.specs.Read.{Answer, accepted, refused, readJob}
 use Rattle.job.specs.Accepted.{accepted-job}
-use Rattle.job.specs.Refusal.{read-numbers}
+use Rattle.job.specs.Refusal.{read-numbers, reader-number-some}
 use Rattle.kelvrist.specs.PlanBytes.{planBytesFor, planBytesCall, checkBytesFor, checkBytesCall}
 use Rattle.kelvrist.specs.Laws.OwnPlan.{bytes-yes}
 
@@ -16,4 +16,4 @@ bytes-accepted file plan h = go (readJob file) refl h
   where
     go : (a : Answer) → readJob file ≡ a → planBytesFor a plan .number ≡ 0 → checkBytesFor a (planBytesFor a plan .plan) ≡ 0
     go (accepted j) r w = bytes-yes j (accepted-job file j r) plan w
-    go (refused k) r w = absurd (omega (arith, read-numbers file k r, w))
+    go (refused k) r w = absurd (omega (arith, reader-number-some (read-numbers file k r), w))

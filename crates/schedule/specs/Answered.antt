@@ -14,7 +14,7 @@ use Rattle.job.specs.Read.{Answer, accepted, refused, readJob}
 use Rattle.job.specs.Refusal.{read-numbers}
 use Rattle.etf.specs.Instance.{Instance, tasks}
 use Rattle.etf.specs.OfJob.{instance}
-use Rattle.schedule.specs.Call.{Call, called, arrivalPlaces, laidOut, tooShort, callFor}
+use Rattle.schedule.specs.Call.{Call, called, arrivalPlaces, laidOut, tooShort, CallNumber, callFor}
 use Rattle.schedule.specs.Lent.{Short, HasRoom}
 
 -- ---- room in the slices, and the definition's test of it
@@ -74,10 +74,10 @@ refuses-or-accepts file Small Room decide = go (readJob file) refl
     go (accepted j) e = held j e (decide j)
     go (refused k) e = inl (k, inl e)
 
--- its numbers are 1 to 9
-pub refusal-number : (file : List ℕ) (Small : Job → Type 0) (k : ℕ) → Refuses file Small k → (1 ≤ k) × (k ≤ 9)
-refusal-number file Small k (inl e) = let n = read-numbers file k e in (n .0, omega (arith, n .1))
-refusal-number file Small k (inr h) = (omega (arith, h .0), omega (arith, h .0))
+-- its numbers are the reader's, and 9
+pub refusal-number : (file : List ℕ) (Small : Job → Type 0) (k : ℕ) → Refuses file Small k → CallNumber k
+refusal-number file Small k (inl e) = inl (read-numbers file k e)
+refusal-number file Small k (inr h) = inr (h .0)
 
 -- ---- a call on three slices
 
@@ -116,9 +116,8 @@ module _ (file starts processors scratch : List ℕ) where
     call-answer a = ap (λ (c : Call A). c .answer) (call-taken a)
 
     -- so it answers by one or the other, and by a number only with the number's cause
-    pub call-answered : SlicesTaken ⊎ ((k : ℕ) × (callOf .answer ≡ refuse k) × (1 ≤ k) × (k ≤ 9))
-    call-answered =
-        ⊎-elim (λ r. let n = refusal-number file _ (r .0) (r .1) in inr (r .0, call-number (r .0) (r .1), n .0, n .1)) inl slices
+    pub call-answered : SlicesTaken ⊎ ((k : ℕ) × (callOf .answer ≡ refuse k) × CallNumber k)
+    call-answered = ⊎-elim (λ r. inr (r .0, call-number (r .0) (r .1), refusal-number file _ (r .0) (r .1))) inl slices
 
     module _ (one : (i k : ℕ) → refuse i ≡ refuse k → i ≡ k) (apart : (k : ℕ) (I : Instance) → ¬ (refuse k ≡ answer I)) where
       pub call-cause : (k : ℕ) → callOf .answer ≡ refuse k → SlicesRefused k

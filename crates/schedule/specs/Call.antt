@@ -1,5 +1,7 @@
 -- A call on a file and three lent slices: what it returns and what the slices hold afterwards, whatever it answers on acceptance.
 use mathlib.Core.Bool.{Bool, _&&_, _||_}
+use mathlib.Core.Logic.{_⊎_}
+use mathlib.Core.Path.{_≡_}
 use mathlib.Core.List.{List}
 use Prim.Native.Nat.{ℕ, _/_, _%_}
 use lib.Dec.{ltb}
@@ -7,6 +9,7 @@ use lib.ListN.{length}
 use Rattle.base.specs.Slices.{filled}
 use Rattle.base.specs.Choice.{pick}
 use Rattle.job.specs.Read.{Answer, accepted, refused}
+use Rattle.job.specs.Cause.{ReaderNumber}
 use Rattle.etf.specs.Instance.{Instance, tasks}
 use Rattle.etf.specs.Schedule.{placementOf, arrival}
 use Rattle.etf.specs.Rule.{planned}
@@ -48,6 +51,10 @@ laidOut answer I starts processors scratch =
 -- 01: 9, "a lent slice too short": fewer than m starts, m processors or so many places of scratch
 unfoldable pub tooShort : ℕ → ℕ → List ℕ → List ℕ → List ℕ → Bool
 tooShort places m starts processors scratch = ltb (length starts) m || (ltb (length processors) m || ltb (length scratch) places)
+
+-- a call's numbers: the reader's, and 9
+abbrev pub CallNumber : ℕ → Type 0
+CallNumber k = ReaderNumber k ⊎ (k ≡ 9)
 
 -- a call by the reader's answer. 01: a refused job "is passed on with the reader's own number"; 9 for a slice too short; else it accepts.
 -- 01: "Every refusal returns its number alone and alters no lent slice"

@@ -1,8 +1,9 @@
 -- A call of the checker: its answer.
 use mathlib.Core.Bool.{_||_}
+use mathlib.Core.Logic.{_⊎_}
 use mathlib.Core.Option.{Option, none, some}
 use mathlib.Core.List.{List}
-use Prim.Native.Nat.{ℕ}
+use Prim.Native.Nat.{ℕ, _≤_}
 use lib.Dec.{ltb}
 use lib.ListN.{length, getD}
 use Rattle.base.specs.Choice.{pick}
@@ -13,6 +14,7 @@ use Rattle.etf.specs.Checker.{check}
 use Rattle.etf.specs.OfJob.{instance}
 use Rattle.schedule.specs.declared.Checked.{Checked}
 use Rattle.schedule.specs.declared.Checked.the-variants.{Yes, Refused}
+use Rattle.schedule.specs.Call.{CallNumber}
 
 -- what the checker says of a plan, a processor and a start for each task; none is a yes.
 -- 01: "A plan gives each step a board .. and a start"
@@ -28,6 +30,10 @@ checkedAs (some k) = Refused k
 unfoldable pub numberOf : Option ℕ → ℕ
 numberOf none = 0
 numberOf (some k) = k
+
+-- the checker's numbers: any call's, and 10 to 13 for a rule that a plan breaks
+abbrev pub CheckerNumber : ℕ → Type 0
+CheckerNumber k = CallNumber k ⊎ ((10 ≤ k) × (k ≤ 13))
 
 -- 01: "A plan slice of the checker shorter than m is 9; places past m are not read";
 -- a refused job "is passed on with the reader's own number"

@@ -3,7 +3,7 @@ use mathlib.Core.Bool.{true, false}
 use mathlib.Core.Logic.{_⊎_, inl, inr, ⊎-elim}
 use mathlib.Core.Path.{_≡_, sym}
 use mathlib.Core.List.{List}
-use Prim.Native.Nat.{ℕ, _≤_}
+use Prim.Native.Nat.{ℕ}
 use Rattle.base.specs.Laws.Tests.{impossible}
 use Rattle.etf.specs.Instance.{Instance}
 use Rattle.etf.specs.OfJob.{instance}
@@ -13,7 +13,7 @@ use Rattle.schedule.specs.declared.Planned.{Planned}
 use Rattle.schedule.specs.declared.Planned.the-variants.{Plan, Refused as NotPlanned}
 use Rattle.schedule.specs.declared.Covered.{Covered}
 use Rattle.schedule.specs.declared.Covered.the-variants.{Cover, Refused as NotCovered}
-use Rattle.schedule.specs.Call.{called}
+use Rattle.schedule.specs.Call.{called, CallNumber}
 use Rattle.schedule.specs.Plan.{outcome, planCall}
 use Rattle.schedule.specs.Cover.{figures, coverCall}
 use Rattle.schedule.specs.Answered.{SlicesRefused, SlicesTaken, call-refused, call-number, call-answer, call-answered, call-cause}
@@ -63,7 +63,7 @@ module _ (file starts processors scratch : List ℕ) where
   plan-taken = call-answer file starts processors scratch NotPlanned planAnswer
 
   pub plan-answered : ((o : Outcome) × (planCall file starts processors scratch .answer ≡ Plan o))
-      ⊎ ((k : ℕ) × (planCall file starts processors scratch .answer ≡ NotPlanned k) × (1 ≤ k) × (k ≤ 9))
+      ⊎ ((k : ℕ) × (planCall file starts processors scratch .answer ≡ NotPlanned k) × CallNumber k)
   unfolding planCall
   plan-answered =
       ⊎-elim (λ a. inl (outcome (instance (a .0)), call-answer file starts processors scratch NotPlanned planAnswer a)) inr
@@ -103,7 +103,7 @@ module _ (file starts processors scratch : List ℕ) where
   cover-taken = call-answer file starts processors scratch NotCovered coverAnswer
 
   pub cover-answered : ((f : Figures) × (coverCall file starts processors scratch .answer ≡ Cover f))
-      ⊎ ((k : ℕ) × (coverCall file starts processors scratch .answer ≡ NotCovered k) × (1 ≤ k) × (k ≤ 9))
+      ⊎ ((k : ℕ) × (coverCall file starts processors scratch .answer ≡ NotCovered k) × CallNumber k)
   unfolding coverCall
   cover-answered =
       ⊎-elim (λ a. inl (figures (instance (a .0)), call-answer file starts processors scratch NotCovered coverAnswer a)) inr

@@ -19,6 +19,7 @@ use Rattle.job.specs.declared.Written.the-variants.{Length, Refused as NotWritt
 use Rattle.job.specs.Job.{Job}
 use Rattle.job.specs.Read.{Answer, accepted, refused, readJob, readingOf}
 use Rattle.job.specs.Write.{fileOf, heldJob, Held, roomFor, tooMany, writeAnswer, writeOut}
+use Rattle.job.specs.Cause.{ReaderNumber}
 use Rattle.job.specs.Refusal.{read-numbers, write-numbers}
 use Rattle.etf.specs.Instance.{Instance, tasks}
 use Rattle.etf.specs.Schedule.{Placement, scheduleOf}
@@ -27,14 +28,14 @@ use Rattle.etf.specs.OfJob.{instance}
 use Rattle.etf.specs.Verdict.{number-only}
 use Rattle.schedule.specs.declared.Checked.{Checked}
 use Rattle.schedule.specs.declared.Checked.the-variants.{Yes, Refused as NotChecked}
-use Rattle.schedule.specs.Check.{checkOf, checkedAs, numberOf, checkFor, checkCall}
+use Rattle.schedule.specs.Check.{checkOf, checkedAs, numberOf, CheckerNumber, checkFor, checkCall}
 use Rattle.kelvrist.specs.PlanBytes.{processorIn, startIn, checkBytesFor, checkBytesCall}
 
 -- ---- the reader
 
--- it accepts, or refuses by 1 to 8
+-- it accepts, or refuses by a number of its own
 abbrev pub Read : Answer → Type 0
-Read a = ((m l : ℕ) × (readingOf a .verdict ≡ Counts m l)) ⊎ ((k : ℕ) × (readingOf a .verdict ≡ NotRead k) × (1 ≤ k) × (k ≤ 8))
+Read a = ((m l : ℕ) × (readingOf a .verdict ≡ Counts m l)) ⊎ ((k : ℕ) × (readingOf a .verdict ≡ NotRead k) × ReaderNumber k)
 
 pub read-answers : (file : List ℕ) → Read (readJob file)
 unfolding readingOf
@@ -42,7 +43,7 @@ read-answers file = go (readJob file) refl
   where
     go : (a : Answer) → readJob file ≡ a → Read a
     go (accepted j) e = inl (length (j .tasks), length (j .edges), refl)
-    go (refused k) e = let n = read-numbers file k e in inr (k, refl, n .0, n .1)
+    go (refused k) e = inr (k, refl, read-numbers file k e)
 
 -- ---- the checker
 
@@ -60,12 +61,12 @@ because-number (too-late u h b) = omega arith
 because-number (overlaps u v h g n e b c) = omega arith
 because-number (too-early e h u v g i a b c) = omega arith
 
--- so a refusal's are 1 to 13
+-- so a refusal's are the checker's
 refusal-number : (file : List ℕ) (Short : ℕ → Type 0) (processor start : ℕ → ℕ) (k : ℕ) → Refusal file Short processor start k
-    → (1 ≤ k) × (k ≤ 13)
-refusal-number file Short processor start k (inl e) = omega (arith, read-numbers file k e)
-refusal-number file Short processor start k (inr (j, e, inl (n, s))) = omega arith
-refusal-number file Short processor start k (inr (j, e, inr b)) = omega (arith, because-number b)
+    → CheckerNumber k
+refusal-number file Short processor start k (inl e) = inl (inl (read-numbers file k e))
+refusal-number file Short processor start k (inr (j, e, inl (n, s))) = inl (inr n)
+refusal-number file Short processor start k (inr (j, e, inr b)) = inr (because-number b)
 
 -- a number that the checker says comes with its rule
 said : (I : Instance) (processor start : ℕ → ℕ) (k : ℕ) → checkOf I processor start ≡ some k → Because I (scheduleOf I processor start) k
@@ -112,12 +113,12 @@ module _ (file starts processors : List ℕ) where
       go (accepted j) e w = held j e (ltb (length starts) (tasks (instance j))) (ltb (length processors) (tasks (instance j))) refl refl w
 
   pub check-answers : (checkCall file starts processors ≡ Yes)
-      ⊎ ((k : ℕ) × (checkCall file starts processors ≡ NotChecked k) × (1 ≤ k) × (k ≤ 13))
+      ⊎ ((k : ℕ) × (checkCall file starts processors ≡ NotChecked k) × CheckerNumber k)
   check-answers = go (checkCall file starts processors) refl
     where
-      go : (c : Checked) → checkCall file starts processors ≡ c → (c ≡ Yes) ⊎ ((k : ℕ) × (c ≡ NotChecked k) × (1 ≤ k) × (k ≤ 13))
+      go : (c : Checked) → checkCall file starts processors ≡ c → (c ≡ Yes) ⊎ ((k : ℕ) × (c ≡ NotChecked k) × CheckerNumber k)
       go Yes e = inl refl
-      go (NotChecked k) e = let n = refusal-number file ShortSlices processor start k (check-refuses k e) in inr (k, refl, n .0, n .1)
+      go (NotChecked k) e = inr (k, refl, refusal-number file ShortSlices processor start k (check-refuses k e))
 
 -- from C
 module _ (file plan : List ℕ) where
@@ -141,15 +142,15 @@ module _ (file plan : List ℕ) where
       go (refused n) e w = inl cc
       go (accepted j) e w = held j e (ltb (length plan) (5 * tasks (instance j))) refl w
 
-  pub check-returns : checkBytesCall file plan ≤ 13
+  pub check-returns : (checkBytesCall file plan ≡ 0) ⊎ CheckerNumber (checkBytesCall file plan)
   check-returns = go (le-or-lt 1 (checkBytesCall file plan))
     where
       k : ℕ
       k = checkBytesCall file plan
 
-      go : (1 ≤ k) ⊎ (k < 1) → k ≤ 13
-      go (inl h) = refusal-number file ShortPlan (processorIn plan) (startIn plan) k (check-returns-number k h refl) .1
-      go (inr h) = omega arith
+      go : (1 ≤ k) ⊎ (k < 1) → (k ≡ 0) ⊎ CheckerNumber k
+      go (inl h) = inr (refusal-number file ShortPlan (processorIn plan) (startIn plan) k (check-returns-number k h refl))
+      go (inr h) = inl (omega arith)
 
 -- ---- the writer
 

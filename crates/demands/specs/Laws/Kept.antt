@@ -13,7 +13,7 @@ use Rattle.base.specs.Laws.Filled.{filled-at}
 use Rattle.job.specs.Job.{Edge, Job}
 use Rattle.job.specs.Read.{Answer, accepted, refused, readJob}
 use Rattle.job.specs.Accepted.{accepted-job}
-use Rattle.job.specs.Refusal.{read-numbers}
+use Rattle.job.specs.Refusal.{read-numbers, reader-number-some}
 use Rattle.etf.specs.Instance.{Instance, tasks}
 use Rattle.etf.specs.Schedule.{Placement, placementOf, scheduleOf}
 use Rattle.etf.specs.Rule.{planned}
@@ -127,7 +127,7 @@ bytes-as file plan h = go (readJob file) refl h
 
     go : (a : Answer) → readJob file ≡ a → planBytesFor a plan .number ≡ 0 → BytesAs file plan
     go (accepted j) e w = held j e (le-or-lt (5 * tasks (instance j)) (length plan)) w
-    go (refused k) e w = absurd (omega (arith, read-numbers file k e, w))
+    go (refused k) e w = absurd (omega (arith, reader-number-some (read-numbers file k e), w))
 
 -- ---- the checker's answer
 

@@ -2,10 +2,11 @@
 use mathlib.Core.Logic.{_⊎_, inl, inr}
 use mathlib.Core.Path.{_≡_, refl, ap, sym, _∙_}
 use mathlib.Core.List.{List, _++_}
-use Prim.Native.Nat.{ℕ, _≤_}
+use Prim.Native.Nat.{ℕ}
 use lib.ListN.{length, getD}
 use Rattle.job.specs.Job.{Job}
 use Rattle.job.specs.Read.{Answer, accepted, refused, readJob}
+use Rattle.job.specs.Cause.{ReaderNumber}
 use Rattle.job.specs.Refusal.{read-numbers}
 use Rattle.etf.specs.Instance.{duration}
 use Rattle.etf.specs.Cover.{cover}
@@ -26,15 +27,15 @@ use Rattle.demands.specs.Laws.Answers.{planned-as, outcome-is, covered-a
 use Rattle.demands.specs.Laws.Kept.{slices-hold}
 
 pub prints : (file : List ℕ) → ((j : Job) × (readJob file ≡ accepted j) × (listing file ≡ planListing (instance j)))
-    ⊎ ((k : ℕ) × (readJob file ≡ refused k) × (1 ≤ k) × (k ≤ 8) × (listing file ≡ refusalLine k))
+    ⊎ ((k : ℕ) × (readJob file ≡ refused k) × ReaderNumber k × (listing file ≡ refusalLine k))
 unfolding listing listingFor
 prints file = go (readJob file) refl (λ k e. read-numbers file k e)
   where
-    go : (a : Answer) → readJob file ≡ a → ((k : ℕ) → readJob file ≡ refused k → (1 ≤ k) × (k ≤ 8))
+    go : (a : Answer) → readJob file ≡ a → ((k : ℕ) → readJob file ≡ refused k → ReaderNumber k)
         → ((j : Job) × (readJob file ≡ accepted j) × (listingFor a ≡ planListing (instance j)))
-        ⊎ ((k : ℕ) × (readJob file ≡ refused k) × (1 ≤ k) × (k ≤ 8) × (listingFor a ≡ refusalLine k))
+        ⊎ ((k : ℕ) × (readJob file ≡ refused k) × ReaderNumber k × (listingFor a ≡ refusalLine k))
     go (accepted j) e n = inl (j, e, refl)
-    go (refused k) e n = inr (k, e, n k e .0, n k e .1, refl)
+    go (refused k) e n = inr (k, e, n k e, refl)
 
 module _ (file starts processors scratch : List ℕ) (o : Outcome) (p : planCall file starts processors scratch .answer ≡ Plan o) where
   abbrev start : ℕ → ℕ

@@ -10,6 +10,7 @@ use Rattle.base.specs.Laws.Tests.{lt-or-ge}
 use Rattle.etf.specs.Instance.{tasks}
 use Rattle.etf.specs.OfJob.{instance}
 use Rattle.kelvrist.specs.PlanBytes.{BytesCall, returned, planBytesFor, planBytesCall}
+use Rattle.schedule.specs.Call.{CallNumber}
 use Rattle.schedule.specs.Answered.{Refuses, Accepts, refuses-or-accepts, refusal-number}
 
 module _ (file plan : List ℕ) where
@@ -34,9 +35,10 @@ module _ (file plan : List ℕ) where
   unfolding planBytesCall planBytesFor
   bytes-taken (j, e, f) = rw (e, planBytesFor, le-ltb (length plan) (5 * tasks (instance j)) f)
 
-  pub bytes-answered : planBytesCall file plan .number ≤ 9
+  pub bytes-answered : (planBytesCall file plan .number ≡ 0) ⊎ CallNumber (planBytesCall file plan .number)
   bytes-answered =
-      ⊎-elim (λ r. omega (arith, bytes-number (r .0) (r .1), refusal-number file _ (r .0) (r .1))) (λ a. omega (arith, bytes-taken a)) bytes
+      ⊎-elim (λ r. inr (subst CallNumber (sym (bytes-number (r .0) (r .1))) (refusal-number file _ (r .0) (r .1))))
+      (λ a. inl (bytes-taken a)) bytes
 
   pub bytes-cause : (k : ℕ) → 1 ≤ k → planBytesCall file plan .number ≡ k → BytesRefused k
   bytes-cause k p h =

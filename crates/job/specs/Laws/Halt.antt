@@ -21,7 +21,7 @@ use Rattle.job.specs.Limits.{mostTasks, mostEdges}
 use Rattle.job.specs.Record.{Kind, kindOf, bodyLength, inRange, added}
 use Rattle.job.specs.Read.{Answer, accepted, refused, records, readJob}
 use Rattle.job.specs.Write.{roomFor, tooMany}
-use Rattle.job.specs.Cause.{Cause, Untroubled, Reached, start, next}
+use Rattle.job.specs.Cause.{Cause, ReaderNumber, Untroubled, Reached, start, next}
 use Rattle.job.specs.Cause.{cut, unknown, misplaced, out-of-range, too-many, bad-ends, not-above, bytes-after}
 use Rattle.job.specs.Laws.Judged.{skip, trouble, passes, whole, passed}
 use Rattle.job.specs.Laws.Turn.{Reads, no-more, halted, past, closed, reads}
@@ -64,16 +64,21 @@ pub halts-at : (file : List ℕ) (n : ℕ) → readJob file ≡ refused n → Ha
 unfolding readJob
 halts-at file n e = halt file n (reads file 0 blank) 0 refl start e
 
--- the numbers of causes are 1 to 8
-pub cause-number : {rest : List ℕ} {j : Job} {o : Option Kind} {n : ℕ} → Cause rest j o n → (1 ≤ n) × (n ≤ 8)
-cause-number (cut h) = omega arith
-cause-number unknown = omega arith
-cause-number (misplaced h) = omega arith
-cause-number (out-of-range h) = omega arith
-cause-number (too-many h) = omega arith
-cause-number (bad-ends h) = omega arith
-cause-number (not-above h) = omega arith
-cause-number (bytes-after h) = omega arith
+-- 1 to 8 are the reader's
+pub reader-number : {n : ℕ} → (1 ≤ n) × (n ≤ 8) → ReaderNumber n
+unfolding ReaderNumber
+reader-number h = h
+
+-- the numbers of causes are the reader's
+pub cause-number : {rest : List ℕ} {j : Job} {o : Option Kind} {n : ℕ} → Cause rest j o n → ReaderNumber n
+cause-number (cut h) = reader-number (omega arith)
+cause-number unknown = reader-number (omega arith)
+cause-number (misplaced h) = reader-number (omega arith)
+cause-number (out-of-range h) = reader-number (omega arith)
+cause-number (too-many h) = reader-number (omega arith)
+cause-number (bad-ends h) = reader-number (omega arith)
+cause-number (not-above h) = reader-number (omega arith)
+cause-number (bytes-after h) = reader-number (omega arith)
 
 -- counts that are too large, and counts that are not
 pub many-counts : (m l : ℕ) → Holds (tooMany m l) → (mostTasks < m) ⊎ (mostEdges < l)
