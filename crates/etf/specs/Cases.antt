@@ -7,7 +7,7 @@ use Prim.Native.Nat.{ℕ}
 use lib.ListN.{getD}
 use Rattle.base.specs.Lists.{upto, any, all, filter, greatest, keep, best}
 use Rattle.job.specs.declared.Platform.{Platform}
-use Rattle.job.specs.Job.{Edge, Job}
+use Rattle.job.specs.Job.{Edge, Job, blank, withRack, withTasks, withEdges}
 use Rattle.etf.specs.Instance.{Instance, duration, into, messageTime}
 use Rattle.etf.specs.Schedule.{Placement, placed, placementOf, finish, messageTimeTo, arrival, lastFinish, end, scheduleOf, byTask}
 use Rattle.etf.specs.Rule.{atMost, move, settle, nextMoment, free, finished, ready, pair, pairs, choice, complete, round, run}
@@ -43,13 +43,13 @@ abbrev refusal : Option ℕ → ℕ
 refusal none = 0
 refusal (some k) = k
 
--- the lines that answer a question; all definitions are opened, so that they compute
-pub answer : Question → List (List ℕ)
+-- the lines that answer a question; all definitions are opened, so that they compute, also where another crate opens this one name
+unfoldable pub answer : Question → List (List ℕ)
 unfolding printed instance upto any all filter greatest keep best duration into messageTime
     placed placementOf messageTimeTo arrival lastFinish end scheduleOf byTask
     atMost move settle nextMoment free finished ready pair pairs choice complete round run planned roundsIn rounds
     running busy idle someIdle latestIdleTick lowestIdle later latestInto back walk lastTask cover greatestCost dearestTo dearest
-    firstAnswer misplaced overlap early check hypercubeHops difference ringHops hops cost square costsOf bind orElse flatMap
+    firstAnswer misplaced overlap early check hypercubeHops difference ringHops hops cost square costsOf blank bind orElse flatMap
 answer (planOf j) = printed (instance j)
 answer (planBy order j) = printed (by order (instance j))
 answer (hopsOf r p q) = (hops r p q ∷ []) ∷ []
@@ -68,8 +68,12 @@ rack n wiring c = record { processors = n; topology = wiring; unit = c }
 abbrev link : ℕ → ℕ → ℕ → Edge
 link a b k = record { from = a; to = b; count = k }
 
+-- the job of a rack, its steps and links
+abbrev job : Platform → List ℕ → List Edge → Job
+job r steps links = withEdges (withTasks (withRack blank r) steps) links
+
 abbrev plan : Platform → List ℕ → List Edge → List (List ℕ) → Case
-plan r steps links lines = record { question = planOf (record { platform = r; tasks = steps; edges = links }); lines = lines }
+plan r steps links lines = record { question = planOf (job r steps links); lines = lines }
 
 abbrev between : Platform → ℕ → ℕ → ℕ → Case
 between r p q h = record { question = hopsOf r p q; lines = (h ∷ []) ∷ [] }
@@ -77,7 +81,7 @@ between r p q h = record { question = hopsOf r p q; lines = (h ∷ []) ∷ [] }
 -- the checker's answer to a plan for a job on two boards, flat, c = 2
 abbrev checked : List ℕ → List Edge → List ℕ → List ℕ → ℕ → Case
 checked steps links boards starts number = record {
-  question = answerTo (record { platform = rack 2 0 2; tasks = steps; edges = links }) boards starts;
+  question = answerTo (job (rack 2 0 2) steps links) boards starts;
   lines = (number ∷ []) ∷ [];
 }
 
@@ -131,14 +135,14 @@ further =
     ∷ plan (rack 2 0 0) (5 ∷ 1 ∷ []) [] (row 0 0 0 5 ∷ row 1 1 0 1 ∷ totals 5 0 0)
     -- D with the priority order 2, 1, 0: step 2 goes before step 1
     ∷ record {
-      question = planBy (2 ∷ 1 ∷ 0 ∷ []) (record { platform = rack 2 0 1; tasks = 3 ∷ 2 ∷ 2 ∷ []; edges = link 0 1 1 ∷ link 0 2 1 ∷ [] });
+      question = planBy (2 ∷ 1 ∷ 0 ∷ []) (job (rack 2 0 1) (3 ∷ 2 ∷ 2 ∷ []) (link 0 1 1 ∷ link 0 2 1 ∷ []));
       lines = row 0 0 0 3 ∷ row 1 1 4 6 ∷ row 2 0 3 5 ∷ totals 6 1 1;
     }
     -- one board: a link costs nothing, and the dearest chain is 0
     ∷ plan (rack 1 0 5) (1 ∷ 1 ∷ []) (link 0 1 3 ∷ []) (row 0 0 0 1 ∷ row 1 0 1 2 ∷ totals 2 0 0)
     -- a chain of 3 takes 5 rounds
     ∷ record {
-      question = roundsOf (record { platform = rack 2 0 1; tasks = 2 ∷ 1 ∷ 3 ∷ []; edges = link 0 1 1 ∷ link 1 2 1 ∷ [] });
+      question = roundsOf (job (rack 2 0 1) (2 ∷ 1 ∷ 3 ∷ []) (link 0 1 1 ∷ link 1 2 1 ∷ []));
       lines = (5 ∷ []) ∷ [];
     }
     ∷ []

@@ -7,7 +7,7 @@ use native.Mathlib.Omega.{arith}
 use lib.ListN.{length, replicate, length-replicate, getD-replicate}
 use Rattle.base.specs.Lists.{upto}
 use Rattle.base.specs.Laws.Lists.{upto-in, map-in, map-upto-at, map-upto-length}
-use Rattle.job.specs.Job.{Edge, Job}
+use Rattle.job.specs.Job.{Edge, Job, blank, withRack, withTasks, withEdges}
 use Rattle.job.specs.Accepted.{Accepted, duration, edgeAt}
 use Rattle.etf.specs.Instance.{TaskChain, tasks}
 use Rattle.etf.specs.Rule.{rounds}
@@ -21,31 +21,28 @@ arrow T = record { from = T; to = suc T; count = 1 }
 
 -- m tasks of one tick, each with a message to the next, on n processors wired flat, c = 1
 unfoldable pub chainJob : ℕ → ℕ → Job
-chainJob n m = record {
-  platform = record { processors = n; topology = 0; unit = 1 };
-  tasks = replicate m 1;
-  edges = map arrow (upto (m - 1));
-}
+chainJob n m =
+    withEdges (withTasks (withRack blank (record { processors = n; topology = 0; unit = 1 })) (replicate m 1)) (map arrow (upto (m - 1)))
 
 module _ (n m : ℕ) where
   abbrev one : ℕ
   one = 1
 
   long : length (chainJob n m .tasks) ≡ m
-  unfolding chainJob
+  unfolding chainJob blank
   long = length-replicate m one
 
   edges-long : length (chainJob n m .edges) ≡ m - 1
-  unfolding chainJob
+  unfolding chainJob blank
   edges-long = map-upto-length arrow (m - 1)
 
   edge-is : (i : ℕ) → i < length (chainJob n m .edges) → edgeAt (chainJob n m) i ≡ arrow i
-  unfolding chainJob
+  unfolding chainJob blank
   edge-is i h = map-upto-at arrow (m - 1) i (record { from = 0; to = 0; count = 0 }) (omega (arith, edges-long))
 
   -- it is accepted within the ranges of document 01
   pub chain-accepted : 1 ≤ n → n ≤ 16 → 1 ≤ m → m ≤ 256 → Accepted (chainJob n m)
-  unfolding chainJob
+  unfolding chainJob blank
   chain-accepted a b c d = record {
     some-processor = a;
     few-processors = b;
@@ -67,7 +64,7 @@ module _ (n m : ℕ) where
       tick t h = getD-replicate m t one 0 (omega (arith, long))
 
   in-chain : TaskChain (instance (chainJob n m))
-  unfolding instance chainJob
+  unfolding instance chainJob blank
   in-chain T h = (arrow T, map-in arrow (upto (m - 1)) T (upto-in (m - 1) T (omega (arith, long))), refl, refl)
 
   -- and takes 2m - 1 rounds

@@ -1,22 +1,12 @@
 -- The calls from C on inputs of document 01, held to the definitions by computing them: its case A, and the small inputs of the refusal
 -- table for 9 to 13.
-use mathlib.Core.Option.{orElse, bind}
 use mathlib.Core.Path.{_≡_, refl}
-use mathlib.Core.List.{List, [], _∷_, _++_, flatMap}
+use mathlib.Core.List.{List, [], _∷_, _++_}
 use Prim.Native.Nat.{ℕ}
 use lib.ListN.{replicate}
-use Rattle.base.specs.Number.{number, bytes}
-use Rattle.base.specs.Lists.{upto, any, all, filter, greatest, keep, best}
-use Rattle.job.specs.Job.{blank}
-use Rattle.job.specs.Record.{kindOf, bodyLength, platformIn, durationIn, edgeIn, noRack, stands, full, platformInRange, durationInRange}
-use Rattle.job.specs.Record.{countInRange, inRange, joins, rises, aboveLast, misfit, added}
-use Rattle.job.specs.Read.{after, judged, records, readJob}
-use Rattle.etf.specs.Instance.{duration, into, messageTime}
-use Rattle.etf.specs.Schedule.{placed, placementOf, messageTimeTo, arrival, lastFinish, end, scheduleOf}
-use Rattle.etf.specs.Topology.{hops, cost, square}
-use Rattle.etf.specs.Rule.{atMost, move, settle, nextMoment, free, finished, ready, pair, pairs, choice, complete, round, run, planned}
-use Rattle.etf.specs.Checker.{firstAnswer, misplaced, overlap, early, check}
-use Rattle.etf.specs.OfJob.{costsOf, instance}
+use Rattle.base.specs.Number.{bytes}
+use Rattle.job.specs.Cases.{computed}
+use Rattle.etf.specs.Cases.{answer}
 use Rattle.schedule.specs.Call.{startOf, processorOf}
 use Rattle.schedule.specs.Check.{checkOf, numberOf}
 use Rattle.schedule.specs.Cases.{rack-2, step, file-a, apart}
@@ -50,9 +40,5 @@ pub cases-hold :
     × (checkBytesCall linked (at 0 0 ++ at 1 7) ≡ 0)
     × (checkBytesCall (9 ∷ []) [] ≡ 2)
 unfolding checkOf planBytesCall planBytesFor planBytes taskBytes bytes startOf processorOf checkBytesCall checkBytesFor numberOf
-    processorIn startIn number readJob blank records judged after kindOf bodyLength stands noRack full inRange platformInRange
-    durationInRange countInRange misfit joins aboveLast rises added platformIn durationIn edgeIn flatMap upto any all filter
-    greatest keep best duration into messageTime placed placementOf messageTimeTo arrival lastFinish end scheduleOf hops cost square
-    costsOf atMost move settle nextMoment free finished ready pair pairs choice complete round run planned firstAnswer misplaced overlap
-    early check instance orElse bind
+    processorIn startIn computed answer
 cases-hold = (refl, refl, refl, refl, refl, refl, refl, refl, refl, refl, refl, refl, refl)

@@ -1,24 +1,16 @@
 -- The calls, computed by their definitions on inputs of document 01: its cases A and H, and the small input of the refusal table for 9.
-use mathlib.Core.Option.{orElse, bind}
 use mathlib.Core.Path.{_≡_, refl}
-use mathlib.Core.List.{List, [], _∷_, _++_, map, flatMap}
+use mathlib.Core.List.{List, [], _∷_, _++_, map}
 use Prim.Native.Nat.{ℕ}
 use lib.ListN.{replicate}
-use Rattle.base.specs.Number.{number}
-use Rattle.base.specs.Lists.{upto, any, all, filter, greatest, keep, best}
 use Rattle.base.specs.Slices.{filled}
-use Rattle.job.specs.Job.{Job, blank}
-use Rattle.job.specs.Record.{kindOf, bodyLength, platformIn, durationIn, edgeIn, noRack, stands, full, platformInRange, durationInRange}
-use Rattle.job.specs.Record.{countInRange, inRange, joins, rises, aboveLast, misfit, added}
-use Rattle.job.specs.Read.{after, judged, records, readJob}
-use Rattle.etf.specs.Instance.{duration, into, messageTime}
-use Rattle.etf.specs.Schedule.{placed, placementOf, messageTimeTo, arrival, lastFinish, end, scheduleOf}
-use Rattle.etf.specs.Topology.{hops, cost, square}
-use Rattle.etf.specs.Rule.{atMost, move, settle, nextMoment, free, finished, ready, pair, pairs, choice, complete, round, run, planned}
-use Rattle.etf.specs.Cover.{running, busy, idle, someIdle, latestIdleTick, lowestIdle, later, latestInto, back, walk, lastTask, cover}
-use Rattle.etf.specs.Dearest.{greatestCost, dearestTo, dearest}
-use Rattle.etf.specs.Checker.{firstAnswer, misplaced, overlap, early, check}
-use Rattle.etf.specs.OfJob.{costsOf, instance}
+use Rattle.job.specs.Job.{Job, blank, withRack, withTasks, withEdges}
+use Rattle.job.specs.Cases.{computed}
+use Rattle.etf.specs.Schedule.{end}
+use Rattle.etf.specs.Cover.{cover}
+use Rattle.etf.specs.Dearest.{dearest}
+use Rattle.etf.specs.Cases.{answer}
+use Rattle.etf.specs.OfJob.{instance}
 use Rattle.schedule.specs.declared.Planned.the-variants.{Plan, Refused}
 use Rattle.schedule.specs.declared.Covered.the-variants.{Cover, Refused as NotCovered}
 use Rattle.schedule.specs.declared.Checked.the-variants.{Yes, Refused as NotChecked}
@@ -39,11 +31,9 @@ abbrev pub file-a : List ℕ
 file-a = rack-2 ++ (step 4 ++ (step 3 ++ (step 2 ++ (3 ∷ 0 ∷ 2 ∷ 1 ∷ 0 ∷ 3 ∷ 1 ∷ 2 ∷ 3 ∷ 0 ∷ 4 ∷ []))))
 
 abbrev job-a : Job
-job-a = record {
-  platform = record { processors = 2; topology = 0; unit = 2 };
-  tasks = 4 ∷ 3 ∷ 2 ∷ [];
-  edges = record { from = 0; to = 2; count = 1 } ∷ record { from = 1; to = 2; count = 3 } ∷ [];
-}
+job-a =
+    withEdges (withTasks (withRack blank (record { processors = 2; topology = 0; unit = 2 })) (4 ∷ 3 ∷ 2 ∷ []))
+    (record { from = 0; to = 2; count = 1 } ∷ record { from = 1; to = 2; count = 3 } ∷ [])
 
 -- 01: the file of case H
 abbrev file-h : List ℕ
@@ -80,11 +70,6 @@ pub cases-hold :
     × (checkCall apart (0 ∷ []) (0 ∷ 1 ∷ []) ≡ NotChecked 9)
     × (checkCall apart (0 ∷ 0 ∷ []) (0 ∷ []) ≡ NotChecked 9)
     × (checkCall apart (0 ∷ 5 ∷ 0 ∷ []) (0 ∷ 0 ∷ 99 ∷ []) ≡ Yes)
-unfolding planCall outcome endOf coverCall figures callFor laidOut tooShort filled scratchAt checkCall checkFor checkedAs checkOf startOf
-    processorOf number readJob blank records judged after kindOf bodyLength stands noRack full inRange platformInRange durationInRange
-    countInRange misfit joins aboveLast rises added platformIn durationIn edgeIn flatMap upto any all filter greatest keep best
-    duration into messageTime placed placementOf messageTimeTo arrival lastFinish end scheduleOf hops cost square costsOf
-    atMost move settle nextMoment free finished ready pair pairs choice complete round run planned
-    running busy idle someIdle latestIdleTick lowestIdle later latestInto back walk lastTask cover greatestCost dearestTo dearest
-    firstAnswer misplaced overlap early check instance orElse bind
+unfolding planCall outcome endOf coverCall figures callFor laidOut tooShort filled scratchAt checkCall checkFor checkedAs checkOf
+    startOf processorOf computed answer
 cases-hold = (refl, refl, refl, refl, refl, refl, refl, refl, refl, refl, refl, refl, refl, refl, refl, refl, refl)
