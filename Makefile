@@ -27,15 +27,15 @@ test:
 check: has-rt
 	@rt check
 
-# Each function of either side begins at a line of the cache, so that no time hangs on where the linker happens to put it.
-bench: has-rt has-cc has-objcopy has-rustc $(libraries:target/staticlib/%=target/aligned/%)
+# No time hangs on where the linker happens to put a function: plain Rust's begin at a line of the cache, ours are timed at each start in one.
+bench: has-rt has-cc has-objcopy has-rustc has-python3 $(libraries:target/staticlib/%=target/placed/%)
 	@rustc --edition 2021 -O -C target-cpu=x86-64 -C codegen-units=1 -C llvm-args=-align-all-functions=6 \
-		-L native=target/aligned -l static=timing -l static=kelvrist -o target/bench bench/main.rs
+		-L native=target/placed -l static=timing -l static=kelvrist -o target/bench bench/main.rs
 	@target/bench crates/vectors/stdin
 
-target/aligned/%.a: target/staticlib/%.a
-	@mkdir -p target/aligned
-	@objcopy $$(objdump -h $< | awk '$$2 ~ /^\.text\./ { print "--set-section-alignment " $$2 "=64" }') $< $@
+target/placed/%.a: target/staticlib/%.a bench/place
+	@mkdir -p target/placed
+	@bench/place $< $@
 
 host: has-rt has-cc has-python3 target/staticlib/libkelvrist.a
 	@tests/c_host/run

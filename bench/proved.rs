@@ -1,48 +1,57 @@
-//! The proved functions of crates `timing` and `kelvrist`, as C calls them: a slice is a pointer and a length.
+//! The proved functions of crates `timing` and `kelvrist`, as C calls them: a slice is a pointer and a length. Each is there four
+//! times, at the four starts in a line of the cache (`bench/place`); `begin` says which is called.
+use std::sync::atomic::{AtomicUsize, Ordering::Relaxed};
 
-mod c {
-    extern "C" {
-        pub fn timing_read(file: *const u8, file_len: usize, place: usize) -> u32;
-        pub fn timing_copy(file: *const u8, file_len: usize, out: *mut u8, out_len: usize) -> u32;
-        pub fn kelvrist_plan(job: *const u8, job_len: usize, plan: *mut u8, plan_len: usize)
-            -> u32;
-        pub fn kelvrist_check(
-            job: *const u8,
-            job_len: usize,
-            plan: *const u8,
-            plan_len: usize,
-        ) -> u32;
-        pub fn timing_cover(
-            file: *const u8,
-            file_len: usize,
-            starts: *mut u32,
-            starts_len: usize,
-            processors: *mut u8,
-            processors_len: usize,
-            scratch: *mut u32,
-            scratch_len: usize,
-            out: *mut u32,
-            out_len: usize,
-        ) -> u32;
-    }
+pub const STARTS: usize = 4;
+
+static START: AtomicUsize = AtomicUsize::new(0);
+
+/// From now on the functions that begin there are called.
+pub fn begin(start: usize) {
+    START.store(start % STARTS, Relaxed);
+}
+
+/// An exported function at its four starts.
+macro_rules! placed {
+    ($all:ident($($type:ty),*): $a:ident, $b:ident, $c:ident, $d:ident) => {
+        extern "C" {
+            fn $a($(_: $type),*) -> u32;
+            fn $b($(_: $type),*) -> u32;
+            fn $c($(_: $type),*) -> u32;
+            fn $d($(_: $type),*) -> u32;
+        }
+        static $all: [unsafe extern "C" fn($($type),*) -> u32; STARTS] = [$a, $b, $c, $d];
+    };
+}
+
+placed!(READ(*const u8, usize, usize): timing_read_at_0, timing_read_at_16, timing_read_at_32, timing_read_at_48);
+placed!(COPY(*const u8, usize, *mut u8, usize): timing_copy_at_0, timing_copy_at_16, timing_copy_at_32, timing_copy_at_48);
+placed!(PLAN(*const u8, usize, *mut u8, usize): kelvrist_plan_at_0, kelvrist_plan_at_16, kelvrist_plan_at_32, kelvrist_plan_at_48);
+placed!(CHECK(*const u8, usize, *const u8, usize): kelvrist_check_at_0, kelvrist_check_at_16, kelvrist_check_at_32, kelvrist_check_at_48);
+placed!(COVER(*const u8, usize, *mut u32, usize, *mut u8, usize, *mut u32, usize, *mut u32, usize):
+    timing_cover_at_0, timing_cover_at_16, timing_cover_at_32, timing_cover_at_48);
+
+/// The one of four that is to be called.
+fn there<F: Copy>(all: &[F; STARTS]) -> F {
+    all[START.load(Relaxed)]
 }
 
 /// Reads a job, and gives the number at one place of what was read.
 pub fn read(file: &[u8], place: usize) -> u32 {
-    unsafe { c::timing_read(file.as_ptr(), file.len(), place) }
+    unsafe { there(&READ)(file.as_ptr(), file.len(), place) }
 }
 
 /// Reads a job and writes it to `out`.
 pub fn copy(file: &[u8], out: &mut [u8]) -> u32 {
-    unsafe { c::timing_copy(file.as_ptr(), file.len(), out.as_mut_ptr(), out.len()) }
+    unsafe { there(&COPY)(file.as_ptr(), file.len(), out.as_mut_ptr(), out.len()) }
 }
 
 pub fn plan(job: &[u8], plan: &mut [u8]) -> u32 {
-    unsafe { c::kelvrist_plan(job.as_ptr(), job.len(), plan.as_mut_ptr(), plan.len()) }
+    unsafe { there(&PLAN)(job.as_ptr(), job.len(), plan.as_mut_ptr(), plan.len()) }
 }
 
 pub fn check(job: &[u8], plan: &[u8]) -> u32 {
-    unsafe { c::kelvrist_check(job.as_ptr(), job.len(), plan.as_ptr(), plan.len()) }
+    unsafe { there(&CHECK)(job.as_ptr(), job.len(), plan.as_ptr(), plan.len()) }
 }
 
 /// Plans a job into the slices, and puts the cover and the dearest chain into `out`.
@@ -54,7 +63,7 @@ pub fn cover(
     out: &mut [u32],
 ) -> u32 {
     unsafe {
-        c::timing_cover(
+        there(&COVER)(
             file.as_ptr(),
             file.len(),
             starts.as_mut_ptr(),
@@ -72,11 +81,11 @@ pub fn cover(
 /// The addresses of the two calls on a job and a plan, by name.
 pub fn addresses() -> [(&'static str, usize); 2] {
     [
-        ("kelvrist_plan", c::kelvrist_plan as *const () as usize),
-        ("kelvrist_check", c::kelvrist_check as *const () as usize),
+        ("kelvrist_plan", there(&PLAN) as *const () as usize),
+        ("kelvrist_check", there(&CHECK) as *const () as usize),
     ]
 }
 
 pub fn cover_address() -> usize {
-    c::timing_cover as *const () as usize
+    there(&COVER) as *const () as usize
 }

@@ -1,6 +1,9 @@
-//! Times two functions in turns, by the processor time of the thread: what other programs take in between does not count.
+//! Times two functions in turns, by the processor time of the thread: what other programs take in between does not count. Of ours
+//! each start in a line of the cache has its turns, and a time is the mean over the starts.
+use crate::proved;
 
-const ROUNDS: usize = 31;
+/// For each start.
+const ROUNDS: usize = 11;
 
 /// Nanoseconds that a round takes, about.
 const ROUND: f64 = 4e6;
@@ -55,22 +58,34 @@ fn round(calls: usize, call: &mut dyn FnMut(usize)) -> f64 {
     (now() - start) / calls as f64
 }
 
-fn times(mut rounds: Vec<f64>) -> Times {
-    rounds.sort_by(f64::total_cmp);
-    Times {
-        least: rounds[0],
-        median: rounds[rounds.len() / 2],
+/// What the rounds took, by start.
+type Rounds = [Vec<f64>; proved::STARTS];
+
+/// The mean over the starts.
+fn times(rounds: Rounds) -> Times {
+    let mut mean = Times {
+        least: 0.0,
+        median: 0.0,
+    };
+    for mut there in rounds {
+        there.sort_by(f64::total_cmp);
+        mean.least += there[0] / proved::STARTS as f64;
+        mean.median += there[there.len() / 2] / proved::STARTS as f64;
     }
+    mean
 }
 
 /// The times of two functions, which take turns; a call is told how many went before it in its round.
 pub fn timed(mut one: impl FnMut(usize), mut other: impl FnMut(usize)) -> [Times; 2] {
     let calls = calls_in_a_round(&mut one);
-    let (mut a, mut b) = (Vec::new(), Vec::new());
-    for _ in 0..ROUNDS {
-        a.push(round(calls, &mut one));
-        b.push(round(calls, &mut other));
+    let (mut a, mut b): (Rounds, Rounds) = Default::default();
+    for i in 0..ROUNDS * proved::STARTS {
+        let start = i % proved::STARTS;
+        proved::begin(start);
+        a[start].push(round(calls, &mut one));
+        b[start].push(round(calls, &mut other));
     }
+    proved::begin(0);
     [times(a), times(b)]
 }
 
