@@ -2,20 +2,22 @@
 -- cites these and never the definition's text.
 use mathlib.Core.Bool.{true, false}
 use mathlib.Core.Logic.{_⊎_}
-use mathlib.Core.Path.{_≡_, refl, _∙_}
-use mathlib.Core.List.{List}
-use Prim.Native.Nat.{ℕ, suc, _≤_, _<_}
+use mathlib.Core.Path.{_≡_, refl, sym, _∙_}
+use mathlib.Core.List.{List, map, append-nil}
+use Prim.Native.Nat.{ℕ, suc, _+_, _*_, _≤_, _<_}
 use lib.ListN.{length, getD, List·getD-eq-default}
 use Rattle.job.specs.declared.Verdict.the-variants.{Counts, Refused}
 use Rattle.base.specs.Laws.Tests.{impossible}
 use Rattle.job.specs.declared.Arrays.{Arrays}
-use Rattle.job.specs.Job.{Edge, Job, blank}
-use Rattle.job.specs.Limits.{mostProcessors, mostUnit, mostDuration, mostCount, mostTasks, mostEdges}
+use Rattle.job.specs.Job.{Edge, ends, wireCost, Job, blank}
+use Rattle.job.specs.Limits.{mostProcessors, mostUnit, mostWireCost, mostDuration, mostCount, mostTasks, mostEdges}
+use Rattle.job.specs.Record.{wirePairs}
 use Rattle.job.specs.Read.{Answer, accepted, refused, readJob, arraysOf, readingOf}
 use Rattle.job.specs.Laws.Turn.{reads}
 use Rattle.job.specs.Laws.Lists.{padded-length, padded-at, column-length, column-at, column-spare}
 use Rattle.job.specs.Laws.Tests.{platform-facts, duration-facts, count-facts, joins-facts, rises-facts}
 use Rattle.job.specs.Laws.Kept.{noEdge, nothing, kept}
+use Rattle.job.specs.Laws.Wires.{array-length, array-at}
 
 -- the duration of task t
 abbrev pub duration : Job → ℕ → ℕ
@@ -32,8 +34,10 @@ Before a b = (a .from < b .from) ⊎ ((a .from ≡ b .from) × (a .to < b .to))
 pub record Accepted (j : Job) : Type 0 where
   pub some-processor : 1 ≤ j .platform .processors
   pub few-processors : j .platform .processors ≤ mostProcessors
-  pub known-topology : j .platform .topology ≤ 2
+  pub known-topology : j .platform .topology ≤ 3
   pub small-unit : j .platform .unit ≤ mostUnit
+  pub wires-stand : map ends (j .wires) ≡ wirePairs (j .platform)
+  pub cheap-wires : (p q : ℕ) → wireCost (j .wires) p q ≤ mostWireCost
   pub some-task : 1 ≤ length (j .tasks)
   pub few-tasks : length (j .tasks) ≤ mostTasks
   pub long-enough : (t : ℕ) → t < length (j .tasks) → 1 ≤ duration j t
@@ -55,6 +59,8 @@ accepted-job file j e =
       few-processors = p .1;
       known-topology = p .2;
       small-unit = p .3;
+      wires-stand = sym (append-nil (map ends (j .wires))) ∙ rw (k .0 .tasks-wired (k .1)) at (k .0 .wires-stand);
+      cheap-wires = k .0 .wires-cheap;
       some-task = k .1;
       few-tasks = k .0 .few-tasks;
       long-enough = λ t h. duration-facts (duration j t) (k .0 .tasks-right t h) .0;
@@ -86,10 +92,12 @@ pub record LaidOut (r : Arrays) (j : Job) : Type 0 where
   pub from-length : length (r .from) ≡ 1024
   pub to-length : length (r .to) ≡ 1024
   pub counts-length : length (r .counts) ≡ 1024
+  pub wires-length : length (r .wires) ≡ 256
   pub duration-at : (t : ℕ) → getD (r .durations) t 0 ≡ duration j t
   pub from-at : (i : ℕ) → getD (r .from) i 0 ≡ edgeAt j i .from
   pub to-at : (i : ℕ) → getD (r .to) i 0 ≡ edgeAt j i .to
   pub count-at : (i : ℕ) → getD (r .counts) i 0 ≡ edgeAt j i .count
+  pub wire-at : (p q : ℕ) → p < 16 → q < 16 → getD (r .wires) (16 * p + q) 0 ≡ wireCost (j .wires) p q
   pub spare-durations : (t : ℕ) → length (j .tasks) ≤ t → getD (r .durations) t 0 ≡ 0
   pub spare-from : (i : ℕ) → length (j .edges) ≤ i → getD (r .from) i 0 ≡ 0
   pub spare-to : (i : ℕ) → length (j .edges) ≤ i → getD (r .to) i 0 ≡ 0
@@ -103,10 +111,12 @@ laid-out j a = record {
   from-length = column-length (λ e. e .from) noEdge refl (j .edges) (a .few-edges);
   to-length = column-length (λ e. e .to) noEdge refl (j .edges) (a .few-edges);
   counts-length = column-length (λ e. e .count) noEdge refl (j .edges) (a .few-edges);
+  wires-length = array-length (j .wires);
   duration-at = padded-at 256 (j .tasks);
   from-at = column-at (λ e. e .from) noEdge refl (j .edges);
   to-at = column-at (λ e. e .to) noEdge refl (j .edges);
   count-at = column-at (λ e. e .count) noEdge refl (j .edges);
+  wire-at = array-at (j .wires);
   spare-durations = λ t h. padded-at 256 (j .tasks) t ∙ List·getD-eq-default (j .tasks) 0 h;
   spare-from = column-spare (λ e. e .from) noEdge refl (j .edges);
   spare-to = column-spare (λ e. e .to) noEdge refl (j .edges);

@@ -1,14 +1,17 @@
--- The small inputs of document 01's refusal table, and the file of its worked case A, held to the definition of the reader by computing it.
+-- The small inputs of document 01's refusal table, the file of its worked case A, and small files for each sentence of document 02 §1, held
+-- to the definition of the reader by computing it.
 use mathlib.Core.Bool.{Bool, true, _&&_}
 use mathlib.Core.List.{List, [], _∷_, _++_, flatMap}
 use Prim.Native.Nat.{ℕ}
 use lib.Dec.{eqb}
 use lib.Dec.{T as Holds}
 use lib.ListN.{replicate}
+use Rattle.base.specs.Lists.{upto, filter}
 use Rattle.base.specs.Number.{number}
 use Rattle.job.specs.Job.{blank}
 use Rattle.job.specs.Record.{kindOf, bodyLength, platformIn, durationIn, edgeIn, noRack, stands, full, platformInRange}
 use Rattle.job.specs.Record.{durationInRange, countInRange, inRange, joins, rises, aboveLast, misfit, added}
+use Rattle.job.specs.Record.{wireIn, costInRange, pairs, wirePairs, pairsDue, isDue, tooEarly}
 use Rattle.job.specs.Read.{Answer, accepted, refused, after, judged, records, readJob}
 
 -- a file and the number that it gets, 0 where it is accepted
@@ -44,6 +47,48 @@ cases =
     ∷ case 0 (rack-2 ++ (2 ∷ 4 ∷ 0 ∷ 0 ∷ 0 ∷ 2 ∷ 3 ∷ 0 ∷ 0 ∷ 0 ∷ 2 ∷ 2 ∷ 0 ∷ 0 ∷ 0 ∷ 3 ∷ 0 ∷ 2 ∷ 1 ∷ 0 ∷ 3 ∷ 1 ∷ 2 ∷ 3 ∷ 0 ∷ 4 ∷ []))
     ∷ []
 
+-- racks of two and of one processor by their wires, c = 2; a wire, which costs its number
+abbrev wired-2 : List ℕ
+wired-2 = 1 ∷ 2 ∷ 3 ∷ 2 ∷ []
+
+abbrev wired-1 : List ℕ
+wired-1 = 1 ∷ 1 ∷ 3 ∷ 2 ∷ []
+
+abbrev wire : ℕ → ℕ → ℕ → List ℕ
+wire p q c = 5 ∷ p ∷ q ∷ c ∷ []
+
+-- 02 §1
+pub wire-cases : List Case
+wire-cases =
+    -- one wire for each pair, cost 0 to 250; with one processor none
+    case 0 (wired-2 ++ (wire 0 1 0 ++ (wire 1 0 250 ++ (one-tick ++ (4 ∷ [])))))
+    ∷ case 0 (wired-1 ++ (one-tick ++ (4 ∷ [])))
+    -- "a wire record that is not the next pair due or comes past the last"
+    ∷ case 14 (wired-2 ++ wire 1 0 1)
+    ∷ case 14 (wired-2 ++ wire 0 0 1)
+    ∷ case 14 (wired-2 ++ (wire 0 1 1 ++ wire 0 1 1))
+    ∷ case 14 (wired-2 ++ (wire 0 1 1 ++ (wire 1 0 1 ++ wire 2 0 1)))
+    ∷ case 14 (wired-1 ++ wire 0 0 1)
+    ∷ case 14 (wired-1 ++ wire 1 0 1)
+    -- "or a step before all pairs stand (there in place of 3)"; another record there is 3
+    ∷ case 14 (wired-2 ++ one-tick)
+    ∷ case 14 (wired-2 ++ (wire 0 1 1 ++ one-tick))
+    ∷ case 3 (wired-2 ++ (wire 0 1 1 ++ link-01))
+    ∷ case 3 (wired-2 ++ (wire 0 1 1 ++ (4 ∷ [])))
+    ∷ case 3 (wired-2 ++ (wire 0 1 1 ++ wired-2))
+    ∷ case 1 (wired-2 ++ wire 0 1 1)
+    -- "judged after 4", and 4 after 1
+    ∷ case 4 (wired-2 ++ wire 1 0 251)
+    ∷ case 4 (wired-2 ++ (2 ∷ 0 ∷ 0 ∷ 0 ∷ 0 ∷ []))
+    ∷ case 1 (wired-2 ++ (5 ∷ 1 ∷ 0 ∷ []))
+    ∷ case 1 (wired-2 ++ (2 ∷ 1 ∷ 0 ∷ []))
+    -- "kind 5 under another wiring or after a step is 3"; past wiring 3 is 4, and so is c past 100
+    ∷ case 3 (rack-2 ++ wire 0 1 1)
+    ∷ case 3 (wired-1 ++ (one-tick ++ wire 0 1 1))
+    ∷ case 4 (1 ∷ 2 ∷ 4 ∷ 2 ∷ [])
+    ∷ case 4 (1 ∷ 2 ∷ 3 ∷ 101 ∷ [])
+    ∷ []
+
 abbrev numberOf : Answer → ℕ
 numberOf (accepted j) = 0
 numberOf (refused k) = k
@@ -51,7 +96,8 @@ numberOf (refused k) = k
 -- the answer to a file; all definitions of the reader are opened, so that it computes, also where another crate opens this one name
 unfoldable pub computed : List ℕ → Answer
 unfolding readJob blank records judged after kindOf bodyLength stands noRack full inRange platformInRange durationInRange countInRange
-    misfit joins aboveLast rises added platformIn durationIn edgeIn number flatMap
+    costInRange misfit tooEarly isDue pairsDue wirePairs pairs joins aboveLast rises added platformIn durationIn edgeIn wireIn number
+    flatMap filter upto
 computed file = readJob file
 
 -- each file gets its number
@@ -62,3 +108,7 @@ right (c ∷ cs) = eqb (numberOf (computed (c .file))) (c .answer) && right cs
 pub cases-hold : Holds (right cases)
 unfolding right cases computed
 cases-hold = tt
+
+pub wire-cases-hold : Holds (right wire-cases)
+unfolding right wire-cases computed
+wire-cases-hold = tt

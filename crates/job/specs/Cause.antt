@@ -1,5 +1,6 @@
 -- Why a file is refused: what each number of the reader stands for, and the places that the reader comes to (01: the refusal table).
 use mathlib.Core.Bool.{not}
+use mathlib.Core.Logic.{_⊎_}
 use mathlib.Core.Path.{_≡_}
 use mathlib.Core.List.{List}
 use mathlib.Core.Option.{Option, none, some}
@@ -7,8 +8,8 @@ use Prim.Native.Nat.{ℕ, suc, _+_, _<_, _≤_}
 use lib.Dec.{T as Holds}
 use lib.ListN.{length, getD, drop}
 use Rattle.job.specs.Job.{Job, blank}
-use Rattle.job.specs.Record.{Kind, link, end, kindOf, bodyLength, empty, stands, full, inRange, joins, aboveLast, misfit, edgeIn}
-use Rattle.job.specs.Record.{added}
+use Rattle.job.specs.Record.{Kind, step, link, end, wire, kindOf, bodyLength, empty, stands, full, inRange, joins, aboveLast, misfit}
+use Rattle.job.specs.Record.{pairsDue, isDue, added, edgeIn, wireIn}
 
 -- why a record of this kind, with `rest` after its kind byte, is refused after the job so far (01: the refusal table)
 pub data Cause (rest : List ℕ) (j : Job) : Option Kind → ℕ → Type 0 where
@@ -20,10 +21,12 @@ pub data Cause (rest : List ℕ) (j : Job) : Option Kind → ℕ → Type 0 wher
   bad-ends : Holds (not (joins (length (j .tasks)) (edgeIn rest))) → Cause rest j (some link) 6
   not-above : Holds (not (aboveLast (j .edges) (edgeIn rest))) → Cause rest j (some link) 7
   bytes-after : Holds (not (empty rest)) → Cause rest j (some end) 8
+  not-due : Holds (not (isDue (pairsDue j) (wireIn rest))) → Cause rest j (some wire) 14
+  too-early : Holds (not (empty (pairsDue j))) → Cause rest j (some step) 14
 
--- the reader's numbers (01: the refusal table): 1 to 8
+-- the reader's numbers (01: the refusal table; 02 §1): 1 to 8, and 14
 unfoldable pub ReaderNumber : ℕ → Type 0
-ReaderNumber n = (1 ≤ n) × (n ≤ 8)
+ReaderNumber n = ((1 ≤ n) × (n ≤ 8)) ⊎ (n ≡ 14)
 
 -- a record of kind k without trouble, with `rest` after its kind byte, after the job so far
 pub record Untroubled (rest : List ℕ) (j : Job) (k : Kind) : Type 0 where

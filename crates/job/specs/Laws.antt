@@ -15,5 +15,6 @@ pub mod Kept
 pub mod Encoded
 pub mod Met
 pub mod Written
+pub mod Wires
 pub mod Rewritten
 pub mod Prefix

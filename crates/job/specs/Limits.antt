@@ -17,6 +17,10 @@ mostDuration = 1000000
 abbrev pub mostCount : ℕ
 mostCount = 1000
 
+-- 02 §1: a wire's "cost 0 to 250"
+abbrev pub mostWireCost : ℕ
+mostWireCost = 250
+
 -- 01: "1 to 256 steps"
 abbrev pub mostTasks : ℕ
 mostTasks = 256

@@ -3,26 +3,29 @@
 use mathlib.Core.Bool.{Bool, not}
 use mathlib.Core.Logic.{_⊎_}
 use mathlib.Core.Path.{_≡_}
-use mathlib.Core.List.{List, [], _∷_}
+use mathlib.Core.List.{List, [], _∷_, _++_, map, flatMap}
 use mathlib.Core.Option.{Option, none, some}
 use Prim.Native.Nat.{ℕ, zero, suc, _+_, _*_, _-_, _≤_, _<_}
-use lib.Dec.{leb}
+use lib.Dec.{leb, ltb, eqb}
 use lib.Dec.{T as Holds}
 use lib.ListN.{length, getD, drop, replicate}
 use mir.Syntax.{w8, w16, w32}
 use mir.Val.{Fits}
 use Rattle.base.specs.Choice.{pick}
-use Rattle.base.specs.Lists.{values}
+use Rattle.base.specs.Lists.{values, filter}
 use Rattle.job.specs.declared.Platform.{Platform}
 use Rattle.job.specs.declared.parse.Pass.{Pass}
 use Rattle.job.specs.declared.parse.FoundRack.{FoundRack}
 use Rattle.job.specs.declared.parse.FoundStep.{FoundStep}
 use Rattle.job.specs.declared.parse.FoundLink.{FoundLink}
-use Rattle.job.specs.Job.{Edge, Job, blank, withRack, withTasks, withEdges}
-use Rattle.job.specs.Record.{Kind, step, link, end, kindOf, empty, stands, platformInRange, durationInRange, countInRange, joins}
-use Rattle.job.specs.Record.{aboveLast}
-use Rattle.job.specs.Read.{accepted, refusedOr, records, readJob}
-use Rattle.job.specs.Write.{edgeHeld, fileOf}
+use Rattle.job.specs.declared.parse.FoundWire.{FoundWire}
+use Rattle.job.specs.declared.parse.WirePass.{WirePass}
+use Rattle.job.specs.declared.record.Pair.{Pair}
+use Rattle.job.specs.Job.{Edge, Wire, Job, blank, withRack, withWires, withTasks, withEdges}
+use Rattle.job.specs.Record.{Kind, step, link, end, wire, kindOf, empty, stands, platformInRange, durationInRange, countInRange}
+use Rattle.job.specs.Record.{joins, aboveLast, costInRange, wirePairs, pairsDue, isDue, tooEarly}
+use Rattle.job.specs.Read.{refused, accepted, refusedOr, records, readJob, wireArray}
+use Rattle.job.specs.Write.{edgeHeld, wireHeld, fileOf}
 
 -- links by their keys: rising by from, then by to, is rising by key, as to is a byte
 unfoldable pub key : Edge → ℕ
@@ -30,6 +33,28 @@ key e = 256 * e .from + e .to
 
 abbrev pub edge : ℕ → ℕ → ℕ → Edge
 edge f t c = record { from = f; to = t; count = c }
+
+abbrev pub wireOf : ℕ → ℕ → ℕ → Wire
+wireOf f t c = record { from = f; to = t; cost = c }
+
+-- the pairs from p to a processor that is at least q
+unfoldable pub rowFrom : ℕ → ℕ → ℕ → List (ℕ × ℕ)
+rowFrom n p q = map (λ y. (p, y)) (filter (λ y. not (eqb p y)) (values (λ i. i) q (n - q)))
+
+-- the pairs that are at least (p, q), by from, then by to; none from p = n on
+unfoldable pub dueFrom : ℕ → ℕ → ℕ → List (ℕ × ℕ)
+dueFrom n p q = pick (ltb p n) (rowFrom n p q ++ flatMap (λ x. rowFrom n x 0) (values (λ i. i) (suc p) (n - suc p))) []
+
+-- (p, q) is a pair of different processors below n, or p is n: past the last pair
+pub record OnPair (n p q : ℕ) : Type 0 where
+  pub within : p ≤ n
+  pub below : p < n → q < n
+  pub different : p < n → p ≡ q → ⊥
+
+-- the pair after (p, q), by from, then by to
+pub record PairAfter (n : ℕ) (x r : Pair) : Type 0 where
+  pub left : dueFrom n (r .from) (r .to) ≡ dueFrom n (x .from) (x .to + 1)
+  pub on : OnPair n (r .from) (r .to)
 
 -- a if it is a trouble's number, else b
 abbrev pub firstOf : ℕ → ℕ → ℕ
@@ -52,6 +77,22 @@ linkTrouble m least e =
     (pick (not (leb least (key e))) 7
     0))
 
+-- the trouble of a wire's cost, 4, or 0 for none
+unfoldable pub costTrouble : ℕ → ℕ
+costTrouble c = pick (not (costInRange c)) 4 0
+
+-- the trouble of a wire, 4 or 14, or 0 for none; `due` are the pairs due
+unfoldable pub wireTrouble : List (ℕ × ℕ) → Wire → ℕ
+wireTrouble due w =
+    pick (not (costInRange (w .cost))) 4
+    (pick (not (isDue due w)) 14
+    0)
+
+-- the first trouble of wires that stand in their order, or 0
+unfoldable pub wiresTrouble : List Wire → ℕ
+wiresTrouble [] = 0
+wiresTrouble (w ∷ ws) = firstOf (costTrouble (w .cost)) (wiresTrouble ws)
+
 -- the first trouble of the steps, or 0
 unfoldable pub stepsTrouble : List ℕ → ℕ
 stepsTrouble [] = 0
@@ -62,13 +103,14 @@ unfoldable pub linksTrouble : ℕ → ℕ → List Edge → ℕ
 linksTrouble m least [] = 0
 linksTrouble m least (e ∷ es) = firstOf (linkTrouble m least e) (linksTrouble m (key e + 1) es)
 
--- the first trouble of a job, as the reader would meet its records, or 0
+-- the first trouble of a job whose wires are those of its pairs, as the reader would meet its records, or 0
 unfoldable pub jobTrouble : Job → ℕ
 jobTrouble j =
     firstOf (platformTrouble (j .platform))
+    (firstOf (wiresTrouble (j .wires))
     (firstOf (pick (empty (j .tasks)) 3 0)
     (firstOf (stepsTrouble (j .tasks))
-    (linksTrouble (length (j .tasks)) 0 (j .edges))))
+    (linksTrouble (length (j .tasks)) 0 (j .edges)))))
 
 -- the reader meets the file of a job with this trouble, or 0 and it accepts the job as it is
 abbrev pub Met : Job → ℕ → Type 0
@@ -99,7 +141,22 @@ misplacedNumber (some k) = 3
 pub record RackPassed (file : List ℕ) (r : FoundRack) : Type 0 where
   pub answer : readJob file ≡ refusedOr (r .trouble) (records (drop (r .next) file) 0 (withRack blank (r .platform)))
   pub inside : r .trouble ≡ 0 → r .next ≤ length file
-  pub some-processor : r .trouble ≡ 0 → 1 ≤ r .platform .processors
+  pub in-range : r .trouble ≡ 0 → Holds (platformInRange (r .platform))
+
+-- a job so far that a wire may follow, and the pairs due
+pub record WireDue (j : Job) (due : List (ℕ × ℕ)) : Type 0 where
+  pub placed : Holds (stands j wire)
+  pub due-are : pairsDue j ≡ due
+
+-- the wire at place `at`, where x or none is the next pair due: its trouble, or 0 and what is left to judge is the file from `next` on,
+-- with this wire more
+pub record WirePassed (file : List ℕ) (at n : ℕ) (x : Pair) (r : FoundWire) : Type 0 where
+  pub answer : (j : Job) → WireDue j (dueFrom n (x .from) (x .to)) →
+      records (drop at file) 0 j
+      ≡ refusedOr (r .trouble) (records (drop (r .next) file) 0 (withWires j (wireOf (x .from) (x .to) (r .cost) ∷ [])))
+  pub ahead : r .trouble ≡ 0 → at < r .next
+  pub inside : r .trouble ≡ 0 → r .next ≤ length file
+  pub due : r .trouble ≡ 0 → x .from < n
 
 -- a job so far that a step may follow, with m steps
 pub record StepDue (j : Job) (m : ℕ) : Type 0 where
@@ -109,7 +166,8 @@ pub record StepDue (j : Job) (m : ℕ) : Type 0 where
 -- the step at place `at`, after m steps: its trouble, or 0 and what is left to judge is the file from `next` on, with this step more
 pub record StepPassed (file : List ℕ) (at m : ℕ) (r : FoundStep) : Type 0 where
   pub answer : (j : Job) → StepDue j m →
-      records (drop at file) 0 j ≡ refusedOr (r .trouble) (records (drop (r .next) file) 0 (withTasks j (r .duration ∷ [])))
+      records (drop at file) 0 j
+      ≡ refusedOr (r .trouble) (refusedOr (tooEarly j) (records (drop (r .next) file) 0 (withTasks j (r .duration ∷ []))))
   pub ahead : r .trouble ≡ 0 → at < r .next
   pub inside : r .trouble ≡ 0 → r .next ≤ length file
   pub few : r .trouble ≡ 0 → m < 256
@@ -130,7 +188,30 @@ pub record StepsTaken (file durations : List ℕ) (m next : ℕ) : Type 0 where
 -- a job so far that the first step may follow, and of the kinds that a record at place `at` can have, no other
 pub record StepsDue (file : List ℕ) (at : ℕ) (j : Job) : Type 0 where
   pub due : StepDue j 0
+  pub wired : tooEarly j ≡ 0
   pub alone : at < length file → (k : Kind) → kindOf (getD file at 0) ≡ some k → (k ≡ step) ⊎ Holds (not (stands j k))
+
+-- a job so far with a rack and no step, and pairs due
+pub record PairsDue (j : Job) : Type 0 where
+  pub due : StepDue j 0
+  pub early : tooEarly j ≡ 14
+
+-- what stands at place `at` is no wire, but pairs are due: it is refused with this number
+pub record EarlyPassed (file : List ℕ) (at trouble : ℕ) : Type 0 where
+  pub answer : (j : Job) → PairsDue j → records (drop at file) 0 j ≡ refused trouble
+  pub some : trouble ≡ 0 → ⊥
+
+-- the wires of a rack were taken, and no wire stands at `next`: the steps are due
+pub record WiresTaken (file : List ℕ) (p : Platform) (costs : List ℕ) (next : ℕ) : Type 0 where
+  pub inside : next ≤ length file
+  pub due : StepsDue file next (withWires (withRack blank p) (map (wireHeld costs) (wirePairs p)))
+  pub spare : wireArray (map (wireHeld costs) (wirePairs p)) ≡ costs
+
+-- the wires from place `at` on: the trouble that was met, or 0 and what is left to judge is the file from `next` on, with these wires more
+pub record WiresPassed (file : List ℕ) (at : ℕ) (p : Platform) (costs : List ℕ) (r : WirePass) : Type 0 where
+  pub answer : records (drop at file) 0 (withRack blank p)
+      ≡ refusedOr (r .trouble) (records (drop (r .next) file) 0 (withWires (withRack blank p) (map (wireHeld costs) (wirePairs p))))
+  pub taken : r .trouble ≡ 0 → WiresTaken file p costs (r .next)
 
 -- the steps from place `at` on: the trouble that was met, or 0 and what is left to judge is the file from `next` on, with these steps more
 pub record StepsPassed (file : List ℕ) (at : ℕ) (durations : List ℕ) (r : Pass) : Type 0 where

@@ -2,16 +2,17 @@
 use mathlib.Core.Bool.{not}
 use mathlib.Core.List.{List, [], _∷_, _++_, map}
 use mathlib.Core.Option.{Option, none, some}
-use Prim.Native.Nat.{ℕ, zero, suc, _-_}
+use Prim.Native.Nat.{ℕ, zero, suc, _-_, _/_, _%_}
 use lib.Dec.{ltb}
 use lib.ListN.{length, replicate}
 use Rattle.job.specs.declared.Verdict.{Verdict}
 use Rattle.job.specs.declared.Verdict.the-variants.{Counts, Refused}
 use Rattle.base.specs.Choice.{pick}
+use Rattle.base.specs.Lists.{values}
 use Rattle.job.specs.declared.Arrays.{Arrays}
 use Rattle.job.specs.declared.Reading.{Reading}
-use Rattle.job.specs.Job.{Edge, Job, blank}
-use Rattle.job.specs.Record.{Kind, rack, step, link, end, kindOf, bodyLength, empty, stands, full, inRange, misfit, added}
+use Rattle.job.specs.Job.{Edge, Wire, wireCost, Job, blank}
+use Rattle.job.specs.Record.{Kind, rack, step, link, end, wire, kindOf, bodyLength, empty, stands, full, inRange, misfit, added}
 
 -- a file is accepted as a job, or refused with a number of the refusal table
 pub data Answer : Type 0 where
@@ -28,9 +29,11 @@ unfoldable pub after : Kind → List ℕ → Job → (ℕ → Job → Answer) �
 after rack rest j more = more (bodyLength rack) (added j rack rest)
 after step rest j more = more (bodyLength step) (added j step rest)
 after link rest j more = more (bodyLength link) (added j link rest)
+after wire rest j more = more (bodyLength wire) (added j wire rest)
 after end rest j more = pick (empty rest) (accepted j) (refused 8)
 
--- one record, of which `rest` follows the kind byte, after the job so far (01: "Within one: 2, 3, 5, 1, 4, 6, 7")
+-- one record, of which `rest` follows the kind byte, after the job so far (01: "Within one: 2, 3, 5, 1, 4, 6, 7"; 02 §1: 14 is
+-- "judged after 4")
 unfoldable pub judged : Option Kind → List ℕ → Job → (ℕ → Job → Answer) → Answer
 judged none rest j more = refused 2
 judged (some k) rest j more =
@@ -60,6 +63,10 @@ verdictNumber (Refused k) = k
 unfoldable pub padded : ℕ → List ℕ → List ℕ
 padded n xs = xs ++ replicate (n - length xs) 0
 
+-- wires as an array of sixteen rows of sixteen: the cost from p to q at 16 p + q, 0 where there is no wire
+unfoldable pub wireArray : List Wire → List ℕ
+wireArray ws = values (λ k. wireCost ws (k / 16) (k % 16)) 0 256
+
 -- the arrays of a job
 unfoldable pub arraysOf : Job → Arrays
 arraysOf j = record {
@@ -67,6 +74,7 @@ arraysOf j = record {
   from = padded 1024 (map (λ (e : Edge). e .from) (j .edges));
   to = padded 1024 (map (λ (e : Edge). e .to) (j .edges));
   counts = padded 1024 (map (λ (e : Edge). e .count) (j .edges));
+  wires = wireArray (j .wires);
 }
 
 -- the answer as `read` returns it: the verdict beside the platform and the arrays, all 0 on a refusal

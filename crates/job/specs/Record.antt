@@ -2,20 +2,21 @@
 -- the length of a body, where a kind may stand, how many there may be, ranges, what else a record must fit.
 -- A `body` is what follows the kind byte; only the bytes that belong to it are looked at.
 use mathlib.Core.Bool.{Bool, true, false, not, _&&_, _||_}
-use mathlib.Core.List.{List, [], _∷_}
+use mathlib.Core.List.{List, [], _∷_, map, flatMap}
 use mathlib.Core.Option.{Option, none, some}
 use Prim.Native.Nat.{ℕ}
 use lib.Dec.{leb, ltb, eqb}
 use lib.ListN.{length, getD, take, drop}
 use Rattle.base.specs.Choice.{pick}
 use Rattle.base.specs.Number.{number}
+use Rattle.base.specs.Lists.{upto, filter}
 use Rattle.job.specs.declared.Platform.{Platform}
-use Rattle.job.specs.Job.{Edge, Job, withRack, withTasks, withEdges}
-use Rattle.job.specs.Limits.{mostProcessors, mostUnit, mostDuration, mostCount, mostTasks, mostEdges}
+use Rattle.job.specs.Job.{Edge, Wire, Job, withRack, withWires, withTasks, withEdges}
+use Rattle.job.specs.Limits.{mostProcessors, mostUnit, mostWireCost, mostDuration, mostCount, mostTasks, mostEdges}
 
--- 01: "kind | name"
+-- 01: "kind | name"; 02 §1: wire
 pub data Kind : Type 0 where
-  rack step link end : Kind
+  rack step link end wire : Kind
 
 -- the kind that a byte names
 unfoldable pub kindOf : ℕ → Option Kind
@@ -24,7 +25,8 @@ kindOf b =
     (pick (eqb b 2) (some step)
     (pick (eqb b 3) (some link)
     (pick (eqb b 4) (some end)
-    none)))
+    (pick (eqb b 5) (some wire)
+    none))))
 
 -- 01: "a body whose length the kind fixes"
 unfoldable pub bodyLength : Kind → ℕ
@@ -32,6 +34,7 @@ bodyLength rack = 3
 bodyLength step = 4
 bodyLength link = 4
 bodyLength end = 0
+bodyLength wire = 3
 
 -- 01: "boards n (1 byte), wiring (1 byte), unit cost c (1 byte)"
 unfoldable pub platformIn : List ℕ → Platform
@@ -45,6 +48,10 @@ durationIn body = number (take 4 body)
 unfoldable pub edgeIn : List ℕ → Edge
 edgeIn body = record { from = getD body 0 0; to = getD body 1 0; count = number (take 2 (drop 2 body)) }
 
+-- 02 §1: "from board, to board, cost (1 byte each)"
+unfoldable pub wireIn : List ℕ → Wire
+wireIn body = record { from = getD body 0 0; to = getD body 1 0; cost = getD body 2 0 }
+
 abbrev pub empty : {A : Type 0} → List A → Bool
 empty [] = true
 empty (x ∷ xs) = false
@@ -53,12 +60,14 @@ empty (x ∷ xs) = false
 unfoldable pub noRack : Job → Bool
 noRack j = eqb (j .platform .processors) 0
 
--- 01: "One rack, then 1 to 256 steps, then 0 to 1,024 links, then the end record": may the kind stand after what j holds
+-- 01: "One rack, then 1 to 256 steps, then 0 to 1,024 links, then the end record": may the kind stand after what j holds;
+-- 02 §1: "kind 5 under another wiring or after a step is 3"
 unfoldable pub stands : Job → Kind → Bool
 stands j rack = noRack j
 stands j step = not (noRack j) && empty (j .edges)
 stands j link = not (empty (j .tasks))
 stands j end = not (empty (j .tasks))
+stands j wire = not (noRack j) && eqb (j .platform .topology) 3 && empty (j .tasks)
 
 -- 01: "a step past 256 or a link past 1,024"
 unfoldable pub full : Job → Kind → Bool
@@ -66,10 +75,11 @@ full j rack = false
 full j step = leb mostTasks (length (j .tasks))
 full j link = leb mostEdges (length (j .edges))
 full j end = false
+full j wire = false
 
--- 01: "n (1 to 16), wiring (0 flat, 1 cube, 2 ring), c (0 to 100)"
+-- 01: "n (1 to 16), wiring (0 flat, 1 cube, 2 ring), c (0 to 100)"; 02 §1: "Wiring 3 is added"
 unfoldable pub platformInRange : Platform → Bool
-platformInRange p = leb 1 (p .processors) && leb (p .processors) mostProcessors && leb (p .topology) 2 && leb (p .unit) mostUnit
+platformInRange p = leb 1 (p .processors) && leb (p .processors) mostProcessors && leb (p .topology) 3 && leb (p .unit) mostUnit
 
 -- 01: "duration (1 to 1,000,000)"
 unfoldable pub durationInRange : ℕ → Bool
@@ -79,12 +89,17 @@ durationInRange d = leb 1 d && leb d mostDuration
 unfoldable pub countInRange : ℕ → Bool
 countInRange c = leb 1 c && leb c mostCount
 
+-- 02 §1: "cost 0 to 250"
+unfoldable pub costInRange : ℕ → Bool
+costInRange c = leb c mostWireCost
+
 -- each value of a record in its range
 unfoldable pub inRange : Kind → List ℕ → Bool
 inRange rack body = platformInRange (platformIn body)
 inRange step body = durationInRange (durationIn body)
 inRange link body = countInRange (edgeIn body .count)
 inRange end body = true
+inRange wire body = costInRange (wireIn body .cost)
 
 -- 01: "A link has from below to and to below m"
 unfoldable pub joins : ℕ → Edge → Bool
@@ -100,15 +115,38 @@ aboveLast [] e = true
 aboveLast (a ∷ []) e = rises a e
 aboveLast (a ∷ b ∷ es) e = aboveLast (b ∷ es) e
 
--- 01: 6 "from not below to, or to not below m", 7 "a link not above the one before"; 0 where the record fits in the job so far
+-- 02 §1: "each ordered pair of different boards below n, rising by from, then to"
+unfoldable pub pairs : ℕ → List (ℕ × ℕ)
+pairs n = flatMap (λ p. map (λ q. (p, q)) (filter (λ q. not (eqb p q)) (upto n))) (upto n)
+
+-- the pairs of a rack that have a wire: all under wiring 3, none under another
+unfoldable pub wirePairs : Platform → List (ℕ × ℕ)
+wirePairs p = pick (eqb (p .topology) 3) (pairs (p .processors)) []
+
+-- the pairs whose wires do not stand yet, the next one due first
+unfoldable pub pairsDue : Job → List (ℕ × ℕ)
+pairsDue j = drop (length (j .wires)) (wirePairs (j .platform))
+
+-- the wire is that of the next pair due
+unfoldable pub isDue : List (ℕ × ℕ) → Wire → Bool
+isDue [] w = false
+isDue (x ∷ xs) w = eqb (w .from) (x .0) && eqb (w .to) (x .1)
+
+-- 02 §1: 14 "a step before all pairs stand"; 0 where they stand
+unfoldable pub tooEarly : Job → ℕ
+tooEarly j = pick (not (empty (pairsDue j))) 14 0
+
+-- 01: 6 "from not below to, or to not below m", 7 "a link not above the one before"; 02 §1: 14 "a wire record that is not the next
+-- pair due or comes past the last, or a step before all pairs stand"; 0 where the record fits in the job so far
 unfoldable pub misfit : Job → Kind → List ℕ → ℕ
 misfit j rack body = 0
-misfit j step body = 0
+misfit j step body = tooEarly j
 misfit j link body =
     pick (not (joins (length (j .tasks)) (edgeIn body))) 6
     (pick (not (aboveLast (j .edges) (edgeIn body))) 7
     0)
 misfit j end body = 0
+misfit j wire body = pick (not (isDue (pairsDue j) (wireIn body))) 14 0
 
 -- the job with one record more
 unfoldable pub added : Job → Kind → List ℕ → Job
@@ -116,3 +154,4 @@ added j rack body = withRack j (platformIn body)
 added j step body = withTasks j (durationIn body ∷ [])
 added j link body = withEdges j (edgeIn body ∷ [])
 added j end body = j
+added j wire body = withWires j (wireIn body ∷ [])

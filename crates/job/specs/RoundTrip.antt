@@ -17,11 +17,12 @@ use Rattle.job.specs.Laws.Halt.{few-counts}
 use Rattle.job.specs.Laws.Met.{held-writable}
 use Rattle.job.specs.Laws.Lists.{padded-at}
 use Rattle.job.specs.Laws.Columns.{edges-held}
+use Rattle.job.specs.Laws.Wires.{rack-held}
 use Rattle.job.specs.Laws.Rewritten.{written-back, file-bound}
 use Rattle.job.specs.Laws.Prefix.{first-bytes}
 
--- 01: "5 + 5 times (m + links) bytes"
-pub file-length : (j : Job) → length (fileOf j) ≡ 5 + 5 * (length (j .tasks) + length (j .edges))
+-- 01: "5 + 5 times (m + links) bytes"; 02 §1: "the writer's length by 4 a wire"
+pub file-length : (j : Job) → length (fileOf j) ≡ 5 + 5 * (length (j .tasks) + length (j .edges)) + 4 * length (j .wires)
 file-length j = file-size j
 
 -- 00: "A job that the writer takes, written out and read, is the same job"
@@ -31,10 +32,14 @@ pub written-read : (p : Platform) (m l : ℕ) (a : Arrays) (out : List ℕ) (n :
 written-read p m l a out n h e = read-back (heldJob p m l a) out m l n (λ few. held-writable p m l a (few-counts m l few) h) e
 
 -- 00: "an accepted file written out is the same bytes": the arrays that the reader gives hold the job, ..
-pub read-held : (j : Job) → heldJob (readingOf (accepted j) .platform) (length (j .tasks)) (length (j .edges))
+pub read-held : (j : Job) → Accepted j → heldJob (readingOf (accepted j) .platform) (length (j .tasks)) (length (j .edges))
     (readingOf (accepted j) .arrays) ≡ j
 unfolding heldJob readingOf arraysOf
-read-held j = rw (values-back 0 (j .tasks) (λ t. getD (padded 256 (j .tasks)) t 0) (padded-at 256 (j .tasks)), edges-held (j .edges))
+read-held j a = rw (
+  rack-held (j .platform) (j .wires) (a .few-processors) (a .wires-stand),
+  values-back 0 (j .tasks) (λ t. getD (padded 256 (j .tasks)) t 0) (padded-at 256 (j .tasks)),
+  edges-held (j .edges),
+)
 
 -- .. the writer takes it where there is room, and what it writes is the file
 pub read-written : (file : List ℕ) (j : Job) (out : List ℕ) → Bytes file → readJob file ≡ accepted j → length file ≤ length out →
@@ -48,7 +53,7 @@ read-written file j out b e h =
 pub greatest-file : (file : List ℕ) (j : Job) → Bytes file → readJob file ≡ accepted j → length file ≤ greatestLength
 greatest-file file j b e =
     let a : Accepted j = accepted-job file j e in
-    file-bound file j b e (a .few-tasks) (a .few-edges)
+    file-bound file j b e (a .few-tasks) (a .few-edges) (a .few-processors) (a .wires-stand)
 
 -- so many bytes that no accepted file has them settle the answer to a file
 pub settled : (file : List ℕ) (n : ℕ) → greatestLength < n → readJob (take n file) ≡ readJob file

@@ -1,8 +1,8 @@
 -- The writer: the file of a job, and what `write` returns and leaves in the borrowed slice.
 use mathlib.Core.Bool.{Bool, _||_}
 use mathlib.Core.Path.{_≡_}
-use mathlib.Core.List.{List, [], _∷_, _++_, flatMap}
-use Prim.Native.Nat.{ℕ, _^_, _<_}
+use mathlib.Core.List.{List, [], _∷_, _++_, map, flatMap}
+use Prim.Native.Nat.{ℕ, _+_, _*_, _^_, _<_}
 use lib.Dec.{ltb}
 use lib.ListN.{length, getD, drop}
 use Rattle.base.specs.Lists.{values}
@@ -12,8 +12,9 @@ use Rattle.job.specs.declared.Arrays.{Arrays}
 use Rattle.job.specs.declared.Platform.{Platform}
 use Rattle.job.specs.declared.Written.{Written}
 use Rattle.job.specs.declared.Written.the-variants.{Length, Refused}
-use Rattle.job.specs.Job.{Edge, Job}
+use Rattle.job.specs.Job.{Edge, Wire, Job}
 use Rattle.job.specs.Limits.{mostTasks, mostEdges}
+use Rattle.job.specs.Record.{wirePairs}
 use Rattle.job.specs.Read.{Answer, accepted, refused, readJob}
 
 -- the record of kind 1, rack
@@ -28,29 +29,40 @@ stepBytes d = 2 ∷ bytes 4 d
 unfoldable pub linkBytes : Edge → List ℕ
 linkBytes e = 3 ∷ e .from ∷ e .to ∷ bytes 2 (e .count)
 
--- the file of a job: the rack, the steps, the links, the end record
-unfoldable pub fileOf : Job → List ℕ
-fileOf j = rackBytes (j .platform) ++ (flatMap stepBytes (j .tasks) ++ (flatMap linkBytes (j .edges) ++ (4 ∷ [])))
+-- a record of kind 5, wire
+unfoldable pub wireBytes : Wire → List ℕ
+wireBytes w = 5 ∷ w .from ∷ w .to ∷ w .cost ∷ []
 
--- 01: "The greatest file has 6,405 bytes"
+-- the file of a job: the rack, the wires, the steps, the links, the end record
+unfoldable pub fileOf : Job → List ℕ
+fileOf j =
+    rackBytes (j .platform)
+    ++ (flatMap wireBytes (j .wires) ++ (flatMap stepBytes (j .tasks) ++ (flatMap linkBytes (j .edges) ++ (4 ∷ []))))
+
+-- 01: "The greatest file has 6,405 bytes"; 02 §1: it "grows by 960 bytes"
 abbrev pub greatestLength : ℕ
-greatestLength = 6405
+greatestLength = 7365
 
 -- the edge whose parts stand at place i of three arrays
 unfoldable pub edgeHeld : List ℕ → List ℕ → List ℕ → ℕ → Edge
 edgeHeld from to counts i = record { from = getD from i 0; to = getD to i 0; count = getD counts i 0 }
 
--- a job held as numbers: the first m durations and the first l edges; spare places are not read
+-- the wire of a pair of processors, its cost at 16 p + q of an array
+unfoldable pub wireHeld : List ℕ → ℕ × ℕ → Wire
+wireHeld costs x = record { from = x .0; to = x .1; cost = getD costs (16 * x .0 + x .1) 0 }
+
+-- a job held as numbers: a wire for each pair that has one, the first m durations, the first l edges; spare places are not read
 unfoldable pub heldJob : Platform → ℕ → ℕ → Arrays → Job
 heldJob p m l a = record {
   platform = p;
+  wires = map (wireHeld (a .wires)) (wirePairs p);
   tasks = values (λ t. getD (a .durations) t 0) 0 m;
   edges = values (edgeHeld (a .from) (a .to) (a .counts)) 0 l;
 }
 
 -- the arrays in their struct
-abbrev pub gathered : List ℕ → List ℕ → List ℕ → List ℕ → Arrays
-gathered durations from to counts = record { durations = durations; from = from; to = to; counts = counts }
+abbrev pub gathered : List ℕ → List ℕ → List ℕ → List ℕ → List ℕ → Arrays
+gathered durations from to counts wires = record { durations = durations; from = from; to = to; counts = counts; wires = wires }
 
 -- arrays hold what their types can: durations of 32 bits, an edge's end of 8, message counts of 16
 pub record Held (a : Arrays) : Type 0 where

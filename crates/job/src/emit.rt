@@ -1,15 +1,38 @@
 // The writer's parts: the judgement of a job held as numbers, and the bytes of its records.
 use crate::Platform;
 use crate::record;
+use crate::record::Pair;
 ghost use mathlib.Core.Path.{_≡_};
 ghost use Prim.Native.Nat.{_+_, _*_, _≤_, _<_};
-ghost use mathlib.Core.List.{[], _∷_, flatMap};
+ghost use mathlib.Core.List.{[], _∷_, map, flatMap};
+ghost use lib.Dec.{T as Holds};
 ghost use lib.ListN.{length, getD};
 ghost use Rattle.base.specs.Lists.{values};
 ghost use Rattle.base.specs.Slices.{Put};
 ghost use Rattle.job.specs.Job.{Job};
-ghost use Rattle.job.specs.Write.{edgeHeld, heldJob, gathered, stepBytes, linkBytes, fileOf};
-ghost use Rattle.job.specs.Pass.{edge, StepsJudged, LinksJudged, Met};
+ghost use Rattle.job.specs.Record.{platformInRange, wirePairs};
+ghost use Rattle.job.specs.Write.{edgeHeld, wireHeld, heldJob, gathered, wireBytes, stepBytes, linkBytes, fileOf};
+ghost use Rattle.job.specs.Pass.{edge, wiresTrouble, StepsJudged, LinksJudged, Met};
+
+// The first trouble among the wires, or 0 for none.
+fn wires_trouble(platform: Platform, costs: &[u8]) -> u8
+    requires { ⌜ Holds (platformInRange platform) × (256 ≤ length (now costs)) ⌝ }
+    ensures { λ r. ⌜ r ≡ wiresTrouble (map (wireHeld (now (costs .entry))) (wirePairs platform)) ⌝ }
+{
+    if platform.topology != 3 {
+        return 0;
+    }
+    let n = platform.processors;
+    let mut pair = record::pair_after(n, Pair { from: 0, to: 0 });
+    while pair.from < n {
+        let trouble = record::cost_trouble(costs[record::place(pair)]);
+        if trouble != 0 {
+            return trouble;
+        }
+        pair = record::pair_after(n, pair);
+    }
+    0
+}
 
 // The first trouble among the first `tasks` durations, or 0 for none.
 fn steps_trouble(durations: &[u32], tasks: usize) -> u8
@@ -95,6 +118,26 @@ fn put_link(from: u8, to: u8, count: u16, out: &mut [u8], at: usize) -> usize
     )
 }
 
+// Puts the wires: one for each pair under topology 3, none under another.
+fn put_wires(platform: Platform, costs: &[u8; 256], out: &mut [u8], start: usize) -> usize
+    requires { ⌜ Holds (platformInRange platform) ⌝ }
+    requires { ⌜ start + length (flatMap wireBytes (map (wireHeld (now costs)) (wirePairs platform))) ≤ length (now out) ⌝ }
+    ensures { λ r. ⌜ Put (now (out .entry)) (now (out .exit)) start r
+        (flatMap wireBytes (map (wireHeld (now (costs .entry))) (wirePairs platform))) ⌝ }
+{
+    if platform.topology != 3 {
+        return start;
+    }
+    let n = platform.processors;
+    let mut pair = record::pair_after(n, Pair { from: 0, to: 0 });
+    let mut at = start;
+    while pair.from < n {
+        at = put4(out, at, 5, pair.from, pair.to, costs[record::place(pair)]);
+        pair = record::pair_after(n, pair);
+    }
+    at
+}
+
 // Puts the first `tasks` steps.
 fn put_steps(durations: &[u32; 256], tasks: usize, out: &mut [u8], start: usize) -> usize
     requires { ⌜ tasks ≤ 256 ⌝ }
@@ -143,12 +186,18 @@ pub fn job_trouble<'a>(
     from: &'a [u8; 1024],
     to: &'a [u8; 1024],
     counts: &'a [u16; 1024],
+    costs: &'a [u8; 256],
 ) -> u8
     requires { ⌜ (tasks ≤ 256) × (edges ≤ 1024) ⌝ }
-    ensures { λ r. ⌜ Met
-        (heldJob platform tasks edges (gathered (now (durations .entry)) (now (from .entry)) (now (to .entry)) (now (counts .entry)))) r ⌝ }
+    ensures { λ r. ⌜ Met (heldJob platform tasks edges
+        (gathered (now (durations .entry)) (now (from .entry)) (now (to .entry)) (now (counts .entry)) (now (costs .entry)))) r ⌝ }
+    ensures { λ r. ⌜ (r ≡ 0 → Holds (platformInRange platform)) ⌝ }
 {
     let trouble = record::platform_trouble(platform);
+    if trouble != 0 {
+        return trouble;
+    }
+    let trouble = wires_trouble(platform, costs);
     if trouble != 0 {
         return trouble;
     }
@@ -162,12 +211,25 @@ pub fn job_trouble<'a>(
     links_trouble(tasks, edges, from, to, counts)
 }
 
-// The length of the file of a job with so many tasks and edges.
-pub fn file_length(tasks: usize, edges: usize) -> usize
-    requires { ⌜ (tasks ≤ 256) × (edges ≤ 1024) ⌝ }
-    ensures { λ r. ⌜ ((j : Job) → length (j .tasks) ≡ tasks → length (j .edges) ≡ edges → r ≡ length (fileOf j)) ⌝ }
+// The wires of a rack: one for each pair under topology 3, none under another.
+fn wire_count(platform: Platform) -> usize
+    requires { ⌜ Holds (platformInRange platform) ⌝ }
+    ensures { λ r. ⌜ (r ≡ length (wirePairs platform)) × (r ≤ 240) ⌝ }
 {
-    5 + 5 * (tasks + edges)
+    if platform.topology != 3 {
+        return 0;
+    }
+    let n = base::index(platform.processors);
+    n * (n - 1)
+}
+
+// The length of the file of a job with this rack and its wires, and so many tasks and edges.
+pub fn file_length(platform: Platform, tasks: usize, edges: usize) -> usize
+    requires { ⌜ Holds (platformInRange platform) × (tasks ≤ 256) × (edges ≤ 1024) ⌝ }
+    ensures { λ r. ⌜ ((j : Job) → length (j .wires) ≡ length (wirePairs platform) → length (j .tasks) ≡ tasks → length (j .edges) ≡ edges
+        → r ≡ length (fileOf j)) ⌝ }
+{
+    5 + 4 * wire_count(platform) + 5 * (tasks + edges)
 }
 
 // Puts the file of a job held as numbers at the front, and answers its length.
@@ -179,15 +241,16 @@ pub fn put_job<'a>(
     from: &'a [u8; 1024],
     to: &'a [u8; 1024],
     counts: &'a [u16; 1024],
+    costs: &'a [u8; 256],
     out: &mut [u8],
 ) -> usize
-    requires { ⌜ (tasks ≤ 256) × (edges ≤ 1024) ⌝ }
-    requires { ⌜ length (fileOf (heldJob platform tasks edges (gathered (now durations) (now from) (now to) (now counts))))
-        ≤ length (now out) ⌝ }
-    ensures { λ r. ⌜ Put (now (out .entry)) (now (out .exit)) 0 r (fileOf
-        (heldJob platform tasks edges (gathered (now (durations .entry)) (now (from .entry)) (now (to .entry)) (now (counts .entry))))) ⌝ }
+    requires { ⌜ Holds (platformInRange platform) × (tasks ≤ 256) × (edges ≤ 1024) ⌝ }
+    requires { ⌜ length (fileOf (heldJob platform tasks edges
+        (gathered (now durations) (now from) (now to) (now counts) (now costs)))) ≤ length (now out) ⌝ }
+    ensures { λ r. ⌜ Put (now (out .entry)) (now (out .exit)) 0 r (fileOf (heldJob platform tasks edges
+        (gathered (now (durations .entry)) (now (from .entry)) (now (to .entry)) (now (counts .entry)) (now (costs .entry))))) ⌝ }
 {
-    let steps = put4(
+    let wires = put4(
         out,
         0,
         1,
@@ -195,6 +258,7 @@ pub fn put_job<'a>(
         platform.topology,
         platform.unit,
     );
+    let steps = put_wires(platform, costs, out, wires);
     let links = put_steps(durations, tasks, out, steps);
     let end = put_links(edges, from, to, counts, out, links);
     out[end] = 4;

@@ -8,7 +8,7 @@ ghost use Rattle.job.specs.Job.{blank};
 ghost use Rattle.job.specs.Read.{refused, readJob, verdictNumber, arraysOf, readingOf};
 ghost use Rattle.job.specs.Write.{heldJob, WrittenAs};
 
-// Processors n, topology (0 complete, 1 hypercube, 2 ring) and unit cost c (01: the rack).
+// Processors n, topology (0 complete, 1 hypercube, 2 ring, 3 by its wires) and unit cost c (01: the rack).
 pub struct Platform {
     pub processors: u8,
     pub topology: u8,
@@ -21,12 +21,14 @@ pub enum Verdict {
     Refused(u8),
 }
 
-// A job's numbers: the duration of each task, and the ends and the message count of each edge. Places past the last are spare.
+// A job's numbers: the duration of each task, the ends and the message count of each edge, and under topology 3 the cost of the wire from
+// p to q at 16 p + q. Places past the last, and those of no wire, are spare.
 pub struct Arrays {
     pub durations: [u32; 256],
     pub from: [u8; 1024],
     pub to: [u8; 1024],
     pub counts: [u16; 1024],
+    pub wires: [u8; 256],
 }
 
 // The verdict beside the job: spare places are 0, all are 0 on a refusal. The arrays stand first, so that they are copied aligned.
@@ -60,6 +62,7 @@ fn zeros() -> Arrays
         from: [0u8; 1024],
         to: [0u8; 1024],
         counts: [0u16; 1024],
+        wires: [0u8; 256],
     }
 }
 
@@ -88,7 +91,11 @@ pub fn read(file: &[u8]) -> Reading
     }
     let platform = rack.platform;
     let mut arrays = zeros();
-    let steps = parse::steps(file, rack.next, &mut arrays.durations);
+    let wires = parse::wires(file, rack.next, platform, &mut arrays.wires);
+    if wires.trouble != 0 {
+        return refusal(wires.trouble);
+    }
+    let steps = parse::steps(file, wires.next, &mut arrays.durations);
     if steps.trouble != 0 {
         return refusal(steps.trouble);
     }
@@ -119,7 +126,7 @@ pub fn read(file: &[u8]) -> Reading
     }
 }
 
-// Writes a job held as numbers: its platform, its first `tasks` durations and its first `edges` edges (01: the writer).
+// Writes a job held as numbers: its platform and wires, its first `tasks` durations and its first `edges` edges (01: the writer).
 // Nothing is written before the whole job is judged.
 pub fn write(
     platform: Platform,
@@ -144,11 +151,12 @@ pub fn write(
         &arrays.from,
         &arrays.to,
         &arrays.counts,
+        &arrays.wires,
     );
     if 0 < number {
         return Written::Refused(number);
     }
-    if out.len() < emit::file_length(tasks, edges) {
+    if out.len() < emit::file_length(platform, tasks, edges) {
         return Written::Refused(9);
     }
     let length = emit::put_job(
@@ -159,6 +167,7 @@ pub fn write(
         &arrays.from,
         &arrays.to,
         &arrays.counts,
+        &arrays.wires,
         out,
     );
     Written::Length(length)

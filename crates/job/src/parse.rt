@@ -1,12 +1,17 @@
 // The reader's parts: one record, or a pass over one kind of record, from a place of the file to the place after it.
 use crate::Platform;
 use crate::record;
+use crate::record::Pair;
 ghost use mathlib.Core.Path.{_≡_};
 ghost use mathlib.Core.Option.{some};
 ghost use Prim.Native.Nat.{_≤_, _<_};
+ghost use mathlib.Core.List.{[]};
+ghost use lib.Dec.{T as Holds};
 ghost use lib.ListN.{length, getD, replicate};
-ghost use Rattle.job.specs.Record.{step as isStep, link as isLink, kindOf};
-ghost use Rattle.job.specs.Pass.{StandsThere, misplacedNumber, RackPassed, StepPassed, StepsPassed, LinkPassed, EndPassed};
+ghost use Rattle.job.specs.Record.{step as isStep, link as isLink, wire as isWire, kindOf, platformInRange};
+ghost use Rattle.job.specs.Read.{wireArray};
+ghost use Rattle.job.specs.Pass.{StandsThere, misplacedNumber, RackPassed, OnPair, WirePassed, EarlyPassed, WiresPassed};
+ghost use Rattle.job.specs.Pass.{StepPassed, StepsPassed, LinkPassed, EndPassed};
 
 // The rack's trouble, or 0 with its values and the place after it.
 pub struct FoundRack {
@@ -19,6 +24,19 @@ pub struct FoundRack {
 pub struct FoundStep {
     pub trouble: u8,
     pub duration: u32,
+    pub next: usize,
+}
+
+// A wire's trouble, or 0 with its cost and the place after it.
+pub struct FoundWire {
+    pub trouble: u8,
+    pub cost: u8,
+    pub next: usize,
+}
+
+// The trouble that the pass over the wires met, or 0 with the place after them.
+pub struct WirePass {
+    pub trouble: u8,
     pub next: usize,
 }
 
@@ -58,6 +76,7 @@ fn misplaced(kind: u8) -> u8
         2 => 3,
         3 => 3,
         4 => 3,
+        5 => 3,
         _ => 2,
     }
 }
@@ -129,6 +148,83 @@ fn step(file: &[u8], at: usize, tasks: usize) -> FoundStep
         trouble: record::step_trouble(duration),
         duration,
         next: at + 5,
+    }
+}
+
+// The wire at `at`, where `due` is the next pair due.
+fn wire(file: &[u8], at: usize, n: u8, due: Pair) -> FoundWire
+    requires { ⌜ (at < length (now file)) × (kindOf (getD (now file) at 0) ≡ some isWire) × OnPair n (due .from) (due .to) ⌝ }
+    ensures { λ r. ⌜ WirePassed (now (file .entry)) at n due r ⌝ }
+{
+    if file.len() - at < 4 {
+        return FoundWire {
+            trouble: 1,
+            cost: 0,
+            next: at,
+        };
+    }
+    let cost = file[at + 3];
+    FoundWire {
+        trouble: record::wire_trouble(file[at + 1], file[at + 2], cost, n, due),
+        cost,
+        next: at + 4,
+    }
+}
+
+// The trouble of what stands at `at`, no wire, while pairs are due.
+fn early(file: &[u8], at: usize) -> u8
+    requires { ⌜ (at ≤ length (now file)) × (at < length (now file) → getD (now file) at 0 ≡ 5 → ⊥) ⌝ }
+    ensures { λ r. ⌜ EarlyPassed (now (file .entry)) at r ⌝ }
+{
+    if file.len() == at {
+        return 1;
+    }
+    let kind = file[at];
+    if kind != 2 {
+        return misplaced(kind);
+    }
+    let step = step(file, at, 0);
+    if step.trouble != 0 {
+        return step.trouble;
+    }
+    14
+}
+
+// The wires from `start` on: one for each pair under topology 3, none under another.
+pub fn wires(file: &[u8], start: usize, platform: Platform, costs: &mut [u8; 256]) -> WirePass
+    requires { ⌜ (start ≤ length (now file)) × Holds (platformInRange platform) × (now costs ≡ wireArray []) ⌝ }
+    ensures { λ r. ⌜ WiresPassed (now (file .entry)) start platform (now (costs .exit)) r ⌝ }
+{
+    if platform.topology != 3 {
+        return WirePass {
+            trouble: 0,
+            next: start,
+        };
+    }
+    let n = platform.processors;
+    let mut due = record::pair_after(n, Pair { from: 0, to: 0 });
+    let mut at = start;
+    while stands(file, at, 5) {
+        let wire = wire(file, at, n, due);
+        if wire.trouble != 0 {
+            return WirePass {
+                trouble: wire.trouble,
+                next: at,
+            };
+        }
+        costs[record::place(due)] = wire.cost;
+        due = record::pair_after(n, due);
+        at = wire.next;
+    }
+    if due.from < n {
+        return WirePass {
+            trouble: early(file, at),
+            next: at,
+        };
+    }
+    WirePass {
+        trouble: 0,
+        next: at,
     }
 }
 

@@ -1,10 +1,17 @@
-// The numbers of a record, and the trouble of one: its refusal's number among 4, 6 and 7, or 0 for none.
+// The numbers of a record, and the trouble of one: its refusal's number among 4, 6, 7 and 14, or 0 for none.
 use crate::Platform;
 ghost use mathlib.Core.Path.{_≡_};
 ghost use Prim.Native.Nat.{_+_, _*_, _≤_, _<_};
 ghost use lib.ListN.{length, take, drop};
 ghost use Rattle.base.specs.Number.{number};
-ghost use Rattle.job.specs.Pass.{edge, key, platformTrouble, stepTrouble, linkTrouble};
+ghost use Rattle.job.specs.Pass.{edge, key, wireOf, OnPair, PairAfter, dueFrom};
+ghost use Rattle.job.specs.Pass.{platformTrouble, costTrouble, wireTrouble, stepTrouble, linkTrouble};
+
+// A pair of processors, or past the last one: then `from` is their number n.
+pub struct Pair {
+    pub from: u8,
+    pub to: u8,
+}
 
 // The number in the 2 bytes at `at`.
 pub fn number2(file: &[u8], at: usize) -> u16
@@ -31,11 +38,67 @@ pub fn platform_trouble(p: Platform) -> u8
     if 16 < p.processors {
         return 4;
     }
-    if 2 < p.topology {
+    if 3 < p.topology {
         return 4;
     }
     if 100 < p.unit {
         return 4;
+    }
+    0
+}
+
+// The next pair, by from, then by to.
+pub fn pair_after(n: u8, x: Pair) -> Pair
+    requires { ⌜ (n ≤ 16) × (x .from < n) × (x .to < n) ⌝ }
+    ensures { λ r. ⌜ PairAfter n x r ⌝ }
+{
+    let mut to = x.to + 1;
+    if to == x.from {
+        to += 1;
+    }
+    if to < n {
+        return Pair { from: x.from, to };
+    }
+    Pair {
+        from: x.from + 1,
+        to: 0,
+    }
+}
+
+// The place of a pair's cost in an array of sixteen rows of sixteen.
+pub fn place(x: Pair) -> usize
+    requires { ⌜ (x .from < 16) × (x .to < 16) ⌝ }
+    ensures { λ r. ⌜ (r ≡ 16 * x .from + x .to) × (r < 256) ⌝ }
+{
+    16 * base::index(x.from) + base::index(x.to)
+}
+
+pub fn cost_trouble(cost: u8) -> u8
+    ensures { λ r. ⌜ r ≡ costTrouble cost ⌝ }
+{
+    if 250 < cost {
+        return 4;
+    }
+    0
+}
+
+// `due` is the next pair due, if it is a pair.
+pub fn wire_trouble(from: u8, to: u8, cost: u8, n: u8, due: Pair) -> u8
+    requires { ⌜ OnPair n (due .from) (due .to) ⌝ }
+    ensures { λ r. ⌜ r ≡ wireTrouble (dueFrom n (due .from) (due .to)) (wireOf from to cost) ⌝ }
+{
+    let trouble = cost_trouble(cost);
+    if trouble != 0 {
+        return trouble;
+    }
+    if n <= due.from {
+        return 14;
+    }
+    if from != due.from {
+        return 14;
+    }
+    if to != due.to {
+        return 14;
     }
     0
 }

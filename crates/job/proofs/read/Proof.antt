@@ -1,17 +1,18 @@
 -- `read`: the loop over the links keeps that the answer to the file is the answer to its rest, with the job that the arrays hold so far;
 -- each return is that answer after a part of the file.
-use mathlib.Core.Bool.{not}
+use mathlib.Core.Bool.{not, _&&_}
 use mathlib.Core.Logic.{_⊎_, inl, inr}
 use mathlib.Core.Path.{_≡_, refl, ap, sym, _∙_}
-use mathlib.Core.List.{List, [], _∷_}
+use mathlib.Core.List.{List, [], _∷_, map}
 use mathlib.Core.Option.{some}
 use Prim.Native.Nat.{ℕ, _+_, _-_, _≤_, _<_}
 use native.Mathlib.Omega.{arith}
 use borrow.Author.Needs.{needs}
+use lib.Dec.{eqb}
 use lib.Dec.{T as Holds}
 use lib.ListN.{length, getD, drop, set}
 use Rattle.base.specs.Lists.{values}
-use Rattle.base.specs.Laws.Tests.{fails, second, ne→neqb, when-true, when-false}
+use Rattle.base.specs.Laws.Tests.{fails, not-both, second, ne→neqb, when-true, when-false}
 use Rattle.base.specs.Laws.Values.{length-values}
 use Rattle.job.specs.declared.Arrays.{Arrays}
 use Rattle.job.specs.declared.Platform.{Platform}
@@ -20,15 +21,17 @@ use Rattle.job.specs.declared.Verdict.the-variants.{Counts}
 use Rattle.job.specs.declared.parse.FoundLink.{FoundLink}
 use Rattle.job.specs.declared.parse.FoundRack.{FoundRack}
 use Rattle.job.specs.declared.parse.Pass.{Pass}
-use Rattle.job.specs.Job.{blank, withRack, withTasks, withEdges}
-use Rattle.job.specs.Record.{Kind, rack, step, link, end, kindOf, empty, noRack, stands}
+use Rattle.job.specs.declared.parse.WirePass.{WirePass}
+use Rattle.job.specs.Job.{Job, blank, withRack, withWires, withTasks, withEdges}
+use Rattle.job.specs.Record.{Kind, rack, step, link, end, wire, kindOf, empty, noRack, stands, wirePairs}
 use Rattle.job.specs.Read.{Answer, accepted, refused, refusedOr, records, readJob, padded, arraysOf, readingOf}
-use Rattle.job.specs.Write.{heldJob}
-use Rattle.job.specs.Pass.{edge, RackPassed, StepsPassed, LinkDue, LinkPassed, EndDue, EndPassed}
+use Rattle.job.specs.Write.{wireHeld, heldJob, gathered}
+use Rattle.job.specs.Pass.{edge, RackPassed, WiresPassed, StepsPassed, LinkDue, LinkPassed, EndDue, EndPassed}
 use Rattle.job.specs.Laws.Judged.{passes, stops}
 use Rattle.job.specs.Laws.Kinds.{kind-byte}
 use Rattle.job.specs.Laws.Lists.{empty-nil}
-use Rattle.job.specs.Laws.Due.{bare, first-step, first-link, next-link}
+use Rattle.job.specs.Laws.Tests.{platform-facts}
+use Rattle.job.specs.Laws.Due.{first-link, next-link}
 use Rattle.job.specs.Laws.Columns.{edges-set}
 use Rattle.job.specs.Laws.Spare.{Filled, front-none, front-set, arrays-back}
 use Rattle.job.proofs.read.Statement.{statement}
@@ -47,49 +50,46 @@ record Going (file : List ℕ) (p : Platform) (m : ℕ) (a : Arrays) (l at least
   few-edges : l ≤ 1024
   inside : at ≤ length file
   over : l ≡ 0 → kindOf (getD file at 0) ≡ some step → ⊥
-  filled : Filled m l a
+  filled : Filled p m l a
   due : LinkDue (heldJob p m l a) m l least
   same : readJob file ≡ records (drop at file) 0 (heldJob p m l a)
 
 -- no edge yet: the rest of the arrays is 0
 module _ (file : List ℕ) (rack : FoundRack) (x : RackPassed file rack) (ok : rack .trouble ≡ 0) where
-  due : 1 ≤ rack .platform .processors
-  due = x .some-processor ok
+  module _ (costs : List ℕ) (wires : WirePass) (v : WiresPassed file (rack .next) (rack .platform) costs wires) where
+    abbrev joined : Job
+    joined = withWires (withRack blank (rack .platform)) (map (wireHeld costs) (wirePairs (rack .platform)))
 
-  after-rack : readJob file ≡ records (drop (rack .next) file) 0 (withRack blank (rack .platform))
-  after-rack = x .answer ∙ passes _ _ ok
+    after-wires : readJob file ≡ refusedOr (wires .trouble) (records (drop (wires .next) file) 0 joined)
+    after-wires = x .answer ∙ passes _ _ ok ∙ v .answer
 
-  module _ (durations : List ℕ) (steps : Pass) (y : StepsPassed file (rack .next) durations steps) where
-    after-steps : readJob file ≡ refusedOr (steps .trouble)
-        (records (drop (steps .next) file) 0 (withTasks (withRack blank (rack .platform))
-        (values (λ t. getD durations t 0) 0 (steps .count))))
-    after-steps =
-        let first = first-step (rack .platform) due in
-        after-rack ∙ y .answer (withRack blank (rack .platform))
-        (record { due = first; alone = λ h k e. bare (withRack blank (rack .platform)) first k })
+    module _ (even : wires .trouble ≡ 0) (durations : List ℕ) (steps : Pass) (y : StepsPassed file (wires .next) durations steps) where
+      after-steps : readJob file ≡ refusedOr (steps .trouble)
+          (records (drop (steps .next) file) 0 (withTasks joined (values (λ t. getD durations t 0) 0 (steps .count))))
+      after-steps = after-wires ∙ passes _ _ even ∙ y .answer joined (v .taken even .due)
 
-    begun : steps .trouble ≡ 0 → (z : Arrays) → z ≡ arraysOf blank →
-        Going file (rack .platform) (steps .count) (record { durations = durations; from = z .from; to = z .to; counts = z .counts })
-        0 (steps .next) 0
-    unfolding heldJob values blank arraysOf padded
-    begun fine z e =
-        let t = y .taken fine in
-        record {
-          some-processor = due;
-          some-task = t .some-task;
-          few-tasks = t .few-tasks;
-          few-edges = omega arith;
-          inside = omega (arith, t .inside);
-          over = λ q. t .over;
-          filled = record {
-            durations = t .front;
-            from = front-none 1024 (z .from) (rw e);
-            to = front-none 1024 (z .to) (rw e);
-            counts = front-none 1024 (z .counts) (rw e);
-          };
-          due = first-link _ (steps .count) (t .some-task) (length-values _ 0 (steps .count)) refl;
-          same = after-steps ∙ passes _ _ fine;
-        }
+      begun : steps .trouble ≡ 0 → (z : Arrays) → z ≡ arraysOf blank →
+          Going file (rack .platform) (steps .count) (gathered durations (z .from) (z .to) (z .counts) costs) 0 (steps .next) 0
+      unfolding heldJob values blank arraysOf padded
+      begun fine z e =
+          let t = y .taken fine in
+          record {
+            some-processor = platform-facts (rack .platform) (x .in-range ok) .0;
+            some-task = t .some-task;
+            few-tasks = t .few-tasks;
+            few-edges = omega arith;
+            inside = omega (arith, t .inside);
+            over = λ q. t .over;
+            filled = record {
+              durations = t .front;
+              from = front-none 1024 (z .from) (rw e);
+              to = front-none 1024 (z .to) (rw e);
+              counts = front-none 1024 (z .counts) (rw e);
+              wires = v .taken even .spare;
+            };
+            due = first-link _ (steps .count) (t .some-task) (length-values _ 0 (steps .count)) refl;
+            same = after-steps ∙ passes _ _ fine;
+          }
 
 module _ (file : List ℕ) (p : Platform) (m : ℕ) (a : Arrays) (l at least : ℕ) (g : Going file p m a l at least) where
   bad : (r : FoundLink) → LinkPassed file at m l least r → readJob file ≡
@@ -97,12 +97,8 @@ module _ (file : List ℕ) (p : Platform) (m : ℕ) (a : Arrays) (l at least : �
   bad r x = g .same ∙ x .answer (heldJob p m l a) (g .due)
 
   on : (r : FoundLink) → LinkPassed file at m l least r → r .trouble ≡ 0 →
-      Going file p m (record {
-        durations = a .durations;
-        from = set (a .from) l (r .from);
-        to = set (a .to) l (r .to);
-        counts = set (a .counts) l (r .count);
-      }) (l + 1) (r .next) (r .least)
+      Going file p m (gathered (a .durations) (set (a .from) l (r .from)) (set (a .to) l (r .to)) (set (a .counts) l (r .count)) (a .wires))
+      (l + 1) (r .next) (r .least)
   unfolding heldJob
   on r x z =
       let few : l < 1024 = x .few z in
@@ -120,6 +116,7 @@ module _ (file : List ℕ) (p : Platform) (m : ℕ) (a : Arrays) (l at least : �
           from = front-set (g .filled .from) (r .from) few;
           to = front-set (g .filled .to) (r .to) few;
           counts = front-set (g .filled .counts) (r .count) few;
+          wires = g .filled .wires;
         };
         due = rw (grown, x .least-is) (next-link (g .due) (edge (r .from) (r .to) (r .count)) (x .byte));
         same = bad r x ∙ passes _ _ z ∙ rw grown;
@@ -139,6 +136,10 @@ module _ (file : List ℕ) (p : Platform) (m : ℕ) (a : Arrays) (l at least : �
           inr (fails (stands j step) (λ t. edged (second (not (noRack j)) (empty (j .edges)) t)))
       alone h link e = absurd (other h (kind-byte (getD file at 0) link e))
       alone h end e = inl refl
+      alone h wire e =
+          let j = heldJob p m l a in
+          let tested = not (noRack j) && eqb (p .topology) 3 in
+          inr (fails (stands j wire) (λ t. not-both (empty (j .tasks)) (g .due .placed) (second tested (empty (j .tasks)) t)))
 
   ended : EndDue file at (heldJob p m l a) → (n : ℕ) → EndPassed file at n → readJob file ≡ refusedOr n (accepted (heldJob p m l a))
   ended s n x = g .same ∙ x (heldJob p m l a) s
@@ -168,29 +169,53 @@ returns c = refuse _ _ _ _ (c .refusal .ensures) (c .before .if1 .taken) (c .bef
 zeros-requires : tie.Need-zeros-requires Inv-loop μ-loop
 zeros-requires c κs = search needs
 
-steps-requires : tie.Need-steps-requires Inv-loop μ-loop
-unfolding arraysOf padded blank
-steps-requires c κs =
-    let at-if1 = c .before .before .before in
-    (at-if1 .before .before .rack .ensures .inside (at-if1 .if1 .left), rw (c .before .zeros .ensures))
+wires-requires : tie.Need-wires-requires Inv-loop μ-loop
+unfolding arraysOf blank
+wires-requires c κs =
+    let at-zeros = c .before in
+    let at-if1 = at-zeros .before .before in
+    let x = at-if1 .before .before .rack .ensures in
+    (x .inside (at-if1 .if1 .left), x .in-range (at-if1 .if1 .left), rw (at-zeros .zeros .ensures))
 
 refusal-requires-2 : tie.Need-refusal-requires-2 Inv-loop μ-loop
 refusal-requires-2 c κs = search needs
 
 returns-2 : tie.Need-returns-2 Inv-loop μ-loop
 returns-2 c =
-    let at-steps = c .before .before .before in
-    let at-if1 = at-steps .before .before .before .before in
+    let at-wires = c .before .before .before in
+    let at-if1 = at-wires .before .before .before .before in
     refuse _ _ _ _ (c .refusal2 .ensures) (c .before .if2 .taken)
-    (after-steps _ _ (at-if1 .before .before .rack .ensures) (at-if1 .if1 .left) _ _ (at-steps .steps .ensures))
+    (after-wires _ _ (at-if1 .before .before .rack .ensures) (at-if1 .if1 .left) _ _ (at-wires .wires .ensures))
+
+steps-requires : tie.Need-steps-requires Inv-loop μ-loop
+unfolding arraysOf padded blank
+steps-requires c κs =
+    let at-if2 = c .before in
+    let at-wires = at-if2 .before .before in
+    (at-wires .wires .ensures .taken (at-if2 .if2 .left) .inside, rw (at-wires .before .before .zeros .ensures))
+
+refusal-requires-3 : tie.Need-refusal-requires-3 Inv-loop μ-loop
+refusal-requires-3 c κs = search needs
+
+returns-3 : tie.Need-returns-3 Inv-loop μ-loop
+returns-3 c =
+    let at-steps = c .before .before .before in
+    let at-if2 = at-steps .before .before in
+    let at-wires = at-if2 .before .before in
+    let at-if1 = at-wires .before .before .before .before in
+    refuse _ _ _ _ (c .refusal3 .ensures) (c .before .if3 .taken)
+    (after-steps _ _ (at-if1 .before .before .rack .ensures) (at-if1 .if1 .left) _ _ (at-wires .wires .ensures) (at-if2 .if2 .left) _ _
+    (at-steps .steps .ensures))
 
 loop-holds : tie.Need-loop-holds Inv-loop μ-loop
 loop-holds c =
     let at-steps = c .before .before in
-    let at-zeros = at-steps .before .before in
+    let at-if2 = at-steps .before .before in
+    let at-wires = at-if2 .before .before in
+    let at-zeros = at-wires .before .before in
     let at-if1 = at-zeros .before .before in
-    begun _ _ (at-if1 .before .before .rack .ensures) (at-if1 .if1 .left) _ _ (at-steps .steps .ensures) (c .if2 .left) _
-    (at-zeros .zeros .ensures)
+    begun _ _ (at-if1 .before .before .rack .ensures) (at-if1 .if1 .left) _ _ (at-wires .wires .ensures) (at-if2 .if2 .left) _ _
+    (at-steps .steps .ensures) (c .if3 .left) _ (at-zeros .zeros .ensures)
 
 stands-requires : tie.Need-stands-requires Inv-loop μ-loop
 stands-requires c κs = search needs
@@ -198,67 +223,67 @@ stands-requires c κs = search needs
 link-requires : tie.Need-link-requires Inv-loop μ-loop
 unfolding kindOf
 link-requires c κs =
-    let t = c .before .stands .ensures .yes (when-true (c .if3 .taken)) in
+    let t = c .before .stands .ensures .yes (when-true (c .if4 .taken)) in
     (t .0, rw (t .1), c .before .before .loop .inv .few-edges)
-
-refusal-requires-3 : tie.Need-refusal-requires-3 Inv-loop μ-loop
-refusal-requires-3 c κs = search needs
-
-returns-3 : tie.Need-returns-3 Inv-loop μ-loop
-returns-3 c =
-    let at-link = c .before .before .before in
-    refuse _ _ _ _ (c .refusal3 .ensures) (c .before .if4 .taken)
-    (bad _ _ _ _ _ _ _ (at-link .before .before .before .loop .inv) _ (at-link .link .ensures))
-
-element-write-arrays : tie.Need-element-write-arrays Inv-loop μ-loop
-element-write-arrays c = c .before .before .link .ensures .few (c .if4 .left)
-
-element-write-arrays-2 : tie.Need-element-write-arrays-2 Inv-loop μ-loop
-element-write-arrays-2 c = c .before .before .link .ensures .few (c .if4 .left)
-
-mul-arrays : tie.Need-mul-arrays Inv-loop μ-loop
-mul-arrays c = search needs
-
-element-write-arrays-3 : tie.Need-element-write-arrays-3 Inv-loop μ-loop
-element-write-arrays-3 c = c .before .before .link .ensures .few (c .if4 .left)
-
-add-edges : tie.Need-add-edges Inv-loop μ-loop
-add-edges c = let h = c .before .before .link .ensures .few (c .if4 .left) in search needs
-
-loop-less : tie.Need-loop-less Inv-loop μ-loop
-loop-less c =
-    let x = c .before .before .link .ensures in
-    omega (arith, x .ahead (c .if4 .left), x .inside (c .if4 .left))
-
-loop-again : tie.Need-loop-again Inv-loop μ-loop
-loop-again c =
-    let at-link = c .before .before in
-    on _ _ _ _ _ _ _ (at-link .before .before .before .loop .inv) _ (at-link .link .ensures) (c .if4 .left)
-
-end-requires : tie.Need-end-requires Inv-loop μ-loop
-end-requires c κs = c .before .before .loop .inv .inside
 
 refusal-requires-4 : tie.Need-refusal-requires-4 Inv-loop μ-loop
 refusal-requires-4 c κs = search needs
 
 returns-4 : tie.Need-returns-4 Inv-loop μ-loop
 returns-4 c =
-    let at-end = c .before .before in
-    let at-if3 = at-end .before in
-    let at-stands = at-if3 .before in
-    let at-loop = at-stands .before in
-    let s = ending _ _ _ _ _ _ _ (at-loop .loop .inv) (at-stands .stands .ensures .no (when-false (at-if3 .if3 .left))) in
+    let at-link = c .before .before .before in
     refuse _ _ _ _ (c .refusal4 .ensures) (c .before .if5 .taken)
-    (ended _ _ _ _ _ _ _ (at-loop .loop .inv) s (at-end .end .result) (at-end .end .ensures))
+    (bad _ _ _ _ _ _ _ (at-link .before .before .before .loop .inv) _ (at-link .link .ensures))
+
+element-write-arrays : tie.Need-element-write-arrays Inv-loop μ-loop
+element-write-arrays c = c .before .before .link .ensures .few (c .if5 .left)
+
+element-write-arrays-2 : tie.Need-element-write-arrays-2 Inv-loop μ-loop
+element-write-arrays-2 c = c .before .before .link .ensures .few (c .if5 .left)
+
+mul-arrays : tie.Need-mul-arrays Inv-loop μ-loop
+mul-arrays c = search needs
+
+element-write-arrays-3 : tie.Need-element-write-arrays-3 Inv-loop μ-loop
+element-write-arrays-3 c = c .before .before .link .ensures .few (c .if5 .left)
+
+add-edges : tie.Need-add-edges Inv-loop μ-loop
+add-edges c = let h = c .before .before .link .ensures .few (c .if5 .left) in search needs
+
+loop-less : tie.Need-loop-less Inv-loop μ-loop
+loop-less c =
+    let x = c .before .before .link .ensures in
+    omega (arith, x .ahead (c .if5 .left), x .inside (c .if5 .left))
+
+loop-again : tie.Need-loop-again Inv-loop μ-loop
+loop-again c =
+    let at-link = c .before .before in
+    on _ _ _ _ _ _ _ (at-link .before .before .before .loop .inv) _ (at-link .link .ensures) (c .if5 .left)
+
+end-requires : tie.Need-end-requires Inv-loop μ-loop
+end-requires c κs = c .before .before .loop .inv .inside
+
+refusal-requires-5 : tie.Need-refusal-requires-5 Inv-loop μ-loop
+refusal-requires-5 c κs = search needs
 
 returns-5 : tie.Need-returns-5 Inv-loop μ-loop
 returns-5 c =
-    let at-end = c .before in
-    let at-if3 = at-end .before in
-    let at-stands = at-if3 .before in
+    let at-end = c .before .before in
+    let at-if4 = at-end .before in
+    let at-stands = at-if4 .before in
     let at-loop = at-stands .before in
-    let s = ending _ _ _ _ _ _ _ (at-loop .loop .inv) (at-stands .stands .ensures .no (when-false (at-if3 .if3 .left))) in
-    done _ _ _ _ _ _ _ (at-loop .loop .inv) s _ (at-end .end .ensures) (c .if5 .left)
+    let s = ending _ _ _ _ _ _ _ (at-loop .loop .inv) (at-stands .stands .ensures .no (when-false (at-if4 .if4 .left))) in
+    refuse _ _ _ _ (c .refusal5 .ensures) (c .before .if6 .taken)
+    (ended _ _ _ _ _ _ _ (at-loop .loop .inv) s (at-end .end .result) (at-end .end .ensures))
+
+returns-6 : tie.Need-returns-6 Inv-loop μ-loop
+returns-6 c =
+    let at-end = c .before in
+    let at-if4 = at-end .before in
+    let at-stands = at-if4 .before in
+    let at-loop = at-stands .before in
+    let s = ending _ _ _ _ _ _ _ (at-loop .loop .inv) (at-stands .stands .ensures .no (when-false (at-if4 .if4 .left))) in
+    done _ _ _ _ _ _ _ (at-loop .loop .inv) s _ (at-end .end .ensures) (c .if6 .left)
 
 pub read-spec : {M : Type 1} → statement M
 read-spec =
@@ -270,14 +295,17 @@ read-spec =
     refusal-requires
     returns
     zeros-requires
-    steps-requires
+    wires-requires
     refusal-requires-2
     returns-2
+    steps-requires
+    refusal-requires-3
+    returns-3
     loop-holds
     stands-requires
     link-requires
-    refusal-requires-3
-    returns-3
+    refusal-requires-4
+    returns-4
     element-write-arrays
     element-write-arrays-2
     mul-arrays
@@ -286,6 +314,6 @@ read-spec =
     loop-less
     loop-again
     end-requires
-    refusal-requires-4
-    returns-4
-    returns-5)
+    refusal-requires-5
+    returns-5
+    returns-6)

@@ -5,7 +5,7 @@ use Prim.Native.Nat.{ℕ, _≤_, _<_}
 use native.Mathlib.Omega.{arith}
 use borrow.Author.Needs.{needs}
 use borrow.Author.Tests.{lt-ltb, le-ltb}
-use lib.ListN.{length, getD}
+use lib.ListN.{length, getD, length-map}
 use Rattle.base.specs.Slices.{Put}
 use Rattle.base.specs.Laws.Values.{length-values}
 use Rattle.base.specs.Laws.Stored.{sets-front}
@@ -14,19 +14,21 @@ use Rattle.job.specs.declared.Platform.{Platform}
 use Rattle.job.specs.declared.Written.the-variants.{Length, Refused}
 use Rattle.job.specs.Job.{Job}
 use Rattle.job.specs.Read.{Answer, accepted, refused, readJob}
-use Rattle.job.specs.Write.{fileOf, edgeHeld, heldJob, roomFor, tooMany, writeAnswer, writeOut, WrittenAs}
+use Rattle.job.specs.Record.{wirePairs}
+use Rattle.job.specs.Write.{fileOf, edgeHeld, wireHeld, heldJob, roomFor, tooMany, writeAnswer, writeOut, WrittenAs}
 use Rattle.job.specs.Pass.{Met}
 use Rattle.job.specs.Laws.Judged.{passes, stops}
 use Rattle.job.proofs.write.Statement.{statement}
 use Rattle.job.proofs.write.Tie as tie
 
--- a length that every job with so many tasks and edges has
+-- a length that every job with this rack's wires and so many tasks and edges has
 module _ (p : Platform) (m l : ℕ) (a : Arrays) (n : ℕ)
-    (every : (j : Job) → length (j .tasks) ≡ m → length (j .edges) ≡ l → n ≡ length (fileOf j)) where
+    (every : (j : Job) → length (j .wires) ≡ length (wirePairs p) → length (j .tasks) ≡ m → length (j .edges) ≡ l
+    → n ≡ length (fileOf j)) where
   held-size : n ≡ length (fileOf (heldJob p m l a))
   unfolding heldJob
   held-size =
-      every (heldJob p m l a) (length-values (λ t. getD (a .durations) t 0) 0 m)
+      every (heldJob p m l a) (length-map (wirePairs p) (wireHeld (a .wires))) (length-values (λ t. getD (a .durations) t 0) 0 m)
       (length-values (edgeHeld (a .from) (a .to) (a .counts)) 0 l)
 
   held-room : {k : ℕ} → n ≤ k → length (fileOf (heldJob p m l a)) ≤ k
@@ -82,29 +84,36 @@ job-trouble-requires c κs = search needs
 returns-3 : tie.Need-returns-3
 returns-3 c =
     let at-job-trouble = c .before in
-    let at-if2 = at-job-trouble .before .before .before .before .before .before in
-    bad _ _ _ _ (at-if2 .before .if1 .left) (at-if2 .if2 .left) (at-job-trouble .job-trouble .result) (at-job-trouble .job-trouble .ensures)
+    let at-if2 = at-job-trouble .before .before .before .before .before .before .before in
+    bad _ _ _ _ (at-if2 .before .if1 .left) (at-if2 .if2 .left) (at-job-trouble .job-trouble .result)
+    (at-job-trouble .job-trouble .ensures .0)
     (λ z. omega (arith, c .if3 .taken))
 
 file-length-requires : tie.Need-file-length-requires
-file-length-requires c κs = search needs
+file-length-requires c κs =
+    let at-job-trouble = c .before in
+    let at-if2 = at-job-trouble .before .before .before .before .before .before .before in
+    (at-job-trouble .job-trouble .ensures .1 (omega (arith, c .if3 .left)), at-if2 .before .if1 .left, at-if2 .if2 .left)
 
 returns-4 : tie.Need-returns-4
 returns-4 c =
     let at-if3 = c .before .before in
     let at-job-trouble = at-if3 .before in
-    let at-if2 = at-job-trouble .before .before .before .before .before .before in
+    let at-if2 = at-job-trouble .before .before .before .before .before .before .before in
     no-room _ _ _ _ (at-if2 .before .if1 .left) (at-if2 .if2 .left) (at-job-trouble .job-trouble .result)
-    (at-job-trouble .job-trouble .ensures)
+    (at-job-trouble .job-trouble .ensures .0)
     (omega (arith, at-if3 .if3 .left)) _
     (held-size _ _ _ _ _ (c .before .file-length .ensures)) (c .if4 .taken)
 
 put-job-requires : tie.Need-put-job-requires
 put-job-requires c κs =
-    let at-if4 = c .before .before .before .before .before .before in
+    let at-if4 = c .before .before .before .before .before .before .before in
     let at-if3 = at-if4 .before .before in
-    let at-if2 = at-if3 .before .before .before .before .before .before .before in
-    ((at-if2 .before .if1 .left, at-if2 .if2 .left), held-room _ _ _ _ _ (at-if4 .before .file-length .ensures) (at-if4 .if4 .left))
+    let at-job-trouble = at-if3 .before in
+    let at-if2 = at-job-trouble .before .before .before .before .before .before .before in (
+      (at-job-trouble .job-trouble .ensures .1 (omega (arith, at-if3 .if3 .left)), at-if2 .before .if1 .left, at-if2 .if2 .left),
+      held-room _ _ _ _ _ (at-if4 .before .file-length .ensures) (at-if4 .if4 .left),
+    )
 
 same-length : tie.Need-same-length
 same-length c = search needs
@@ -112,12 +121,12 @@ same-length c = search needs
 returns-5 : tie.Need-returns-5
 returns-5 c =
     let at-put-job = c .before .before in
-    let at-if4 = at-put-job .before .before .before .before .before .before .before in
+    let at-if4 = at-put-job .before .before .before .before .before .before .before .before in
     let at-if3 = at-if4 .before .before in
     let at-job-trouble = at-if3 .before in
-    let at-if2 = at-job-trouble .before .before .before .before .before .before in
+    let at-if2 = at-job-trouble .before .before .before .before .before .before .before in
     wrote _ _ _ _ (at-if2 .before .if1 .left) (at-if2 .if2 .left) (at-job-trouble .job-trouble .result)
-    (at-job-trouble .job-trouble .ensures)
+    (at-job-trouble .job-trouble .ensures .0)
     (omega (arith, at-if3 .if3 .left)) _
     (held-size _ _ _ _ _ (at-if4 .before .file-length .ensures)) (at-if4 .if4 .left) _ _ (at-put-job .put-job .ensures)
 

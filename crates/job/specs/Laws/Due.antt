@@ -1,20 +1,22 @@
 -- The job so far: what may follow it, with one record more.
-use mathlib.Core.Bool.{Bool, true, false, not}
+use mathlib.Core.Bool.{Bool, true, false, not, _&&_}
 use mathlib.Core.Logic.{_⊎_, inl, inr}
-use mathlib.Core.Path.{_≡_, refl, _∙_}
-use mathlib.Core.List.{List, [], _∷_, _++_, append-assoc, append-nil}
+use mathlib.Core.Path.{_≡_, refl, ap, sym, _∙_}
+use mathlib.Core.List.{List, [], _∷_, _++_, append-assoc, append-nil, map}
 use Prim.Native.Nat.{ℕ, _+_, _≤_, _<_}
 use native.Mathlib.Omega.{arith}
-use lib.Dec.{eqb, le→leb}
+use lib.Dec.{eqb, le→leb, eqb→eq}
 use lib.Dec.{T as Holds}
-use lib.ListN.{length, length-append}
+use lib.ListN.{length, drop, length-append, length-map}
+use lib.Seq.{drop-at, drop-drop}
 use Rattle.base.specs.Choice.{pick}
-use Rattle.base.specs.Laws.Tests.{first, both, not-not, ne→neqb, lt→nleb, when-true}
+use Rattle.base.specs.Laws.Tests.{first, parts, both, fails, not-not, ne→neqb, lt→nleb, when-true}
 use Rattle.job.specs.declared.Platform.{Platform}
-use Rattle.job.specs.Job.{Edge, Job, blank, withRack, withTasks, withEdges}
-use Rattle.job.specs.Record.{Kind, rack, step, link, end, empty, noRack, stands, full, platformInRange}
+use Rattle.job.specs.Job.{Edge, Wire, ends, Job, blank, withRack, withWires, withTasks, withEdges}
+use Rattle.job.specs.Record.{Kind, rack, step, link, end, wire, empty, noRack, stands, full, platformInRange}
+use Rattle.job.specs.Record.{pairs, wirePairs, pairsDue, isDue, tooEarly}
 use Rattle.job.specs.Pass.{key, StepDue, LinkDue, platformTrouble}
-use Rattle.job.specs.Laws.Lists.{empty-is, empty-not}
+use Rattle.job.specs.Laws.Lists.{empty-nil, empty-is, empty-not}
 use Rattle.job.specs.Laws.Tests.{platform-facts}
 use Rattle.job.specs.Laws.Order.{above-none, above-more}
 
@@ -25,25 +27,78 @@ tasks-then j a b = rw (append-assoc (j .tasks) a b)
 pub edges-then : (j : Job) (a b : List Edge) → withEdges (withEdges j a) b ≡ withEdges j (a ++ b)
 edges-then j a b = rw (append-assoc (j .edges) a b)
 
+pub wires-then : (j : Job) (a b : List Wire) → withWires (withWires j a) b ≡ withWires j (a ++ b)
+wires-then j a b = rw (append-assoc (j .wires) a b)
+
+pub no-wires : (j : Job) → withWires j [] ≡ j
+no-wires j = rw (append-nil (j .wires))
+
 pub no-tasks : (j : Job) → withTasks j [] ≡ j
 no-tasks j = rw (append-nil (j .tasks))
 
 pub no-edges : (j : Job) → withEdges j [] ≡ j
 no-edges j = rw (append-nil (j .edges))
 
--- a rack without trouble has a processor
-pub racked : (p : Platform) → platformTrouble p ≡ 0 → 1 ≤ p .processors
+-- a rack without trouble is in its ranges, and has a processor
+pub in-ranges : (p : Platform) → platformTrouble p ≡ 0 → Holds (platformInRange p)
 unfolding platformTrouble
-racked p = go (platformInRange p) refl
+in-ranges p = go (platformInRange p)
   where
-    go : (t : Bool) → platformInRange p ≡ t → _≡_ {A = ℕ} (pick (not t) 4 0) 0 → 1 ≤ p .processors
-    go true e h = platform-facts p (when-true e) .0
-    go false e h = omega arith
+    go : (t : Bool) → _≡_ {A = ℕ} (pick (not t) 4 0) 0 → Holds t
+    go true e = tt
+    go false e = let n : ⊥ = omega arith in absurd n
 
--- after the rack a step may follow, ..
-pub first-step : (p : Platform) → 1 ≤ p .processors → StepDue (withRack blank p) 0
+pub racked : (p : Platform) → platformTrouble p ≡ 0 → 1 ≤ p .processors
+racked p e = platform-facts p (in-ranges p e) .0
+
+-- the next pair due is the wire's, ..
+pub due-ends : (due : List (ℕ × ℕ)) (w : Wire) → Holds (isDue due w) → (xs : List (ℕ × ℕ)) × (due ≡ ends w ∷ xs)
+unfolding isDue
+due-ends [] w h = absurd h
+due-ends (x ∷ xs) w h =
+    let s = parts (eqb (w .from) (x .0)) (eqb (w .to) (x .1)) h in
+    let f : w .from ≡ x .0 = eqb→eq _ _ (s .0) in
+    let t : w .to ≡ x .1 = eqb→eq _ _ (s .1) in
+    (xs, rw (f, t))
+
+-- .. and after it the one after that
+pub due-then : (j : Job) (x : ℕ × ℕ) (xs : List (ℕ × ℕ)) (w : Wire) → pairsDue j ≡ x ∷ xs → pairsDue (withWires j (w ∷ [])) ≡ xs
+unfolding pairsDue
+due-then j x xs w e = rw (length-append (j .wires) (w ∷ []))
+    (sym (drop-drop 1 (length (j .wires)) (wirePairs (j .platform))) ∙ ap (λ (l : List (ℕ × ℕ)). drop 1 l) e)
+
+-- the pairs after those of the wires are due
+pub due-after : (j : Job) (xs : List (ℕ × ℕ)) → map ends (j .wires) ++ xs ≡ wirePairs (j .platform) → pairsDue j ≡ xs
+unfolding pairsDue
+due-after j xs e =
+    rw (← e) (drop-at (map ends (j .wires)) xs (length (j .wires)) (length-map (j .wires) ends))
+
+-- no pair is due, and no step comes too early
+pub wired-up : (j : Job) → pairsDue j ≡ [] → tooEarly j ≡ 0
+unfolding tooEarly
+wired-up j e = rw e
+
+-- after the rack a wire may follow where it has pairs, ..
+pub first-wire : (p : Platform) → 1 ≤ p .processors → 1 ≤ length (wirePairs p) → Holds (stands (withRack blank p) wire)
+unfolding stands noRack blank wirePairs
+first-wire p n h = go (eqb (p .topology) 3) refl h
+  where
+    go : (t : Bool) → eqb (p .topology) 3 ≡ t → 1 ≤ length (pick t (pairs (p .processors)) [])
+        → Holds (not (eqb (p .processors) 0) && eqb (p .topology) 3 && true)
+    go true e h =
+        both (not (eqb (p .processors) 0) && eqb (p .topology) 3) true
+        (both (not (eqb (p .processors) 0)) (eqb (p .topology) 3) (ne→neqb (p .processors) 0 (λ z. omega arith)) (when-true e)) tt
+    go false e h = absurd (omega arith)
+
+-- .. and all of them are due
+pub all-due : (p : Platform) → pairsDue (withRack blank p) ≡ wirePairs p
+unfolding pairsDue blank
+all-due p = refl
+
+-- after the rack and its wires a step may follow, ..
+pub first-step : (p : Platform) (ws : List Wire) → 1 ≤ p .processors → StepDue (withWires (withRack blank p) ws) 0
 unfolding stands noRack blank
-first-step p h = record {
+first-step p ws h = record {
   placed = both (not (eqb (p .processors) 0)) true (ne→neqb (p .processors) 0 (λ e. omega arith)) tt;
   tasks-are = refl;
 }
@@ -53,13 +108,22 @@ pub next-step : {j : Job} {m : ℕ} → StepDue j m → (ts : List ℕ) (k : ℕ
 unfolding stands noRack
 next-step {j} {m} s ts k e = record { placed = s .placed; tasks-are = length-append (j .tasks) ts ∙ omega (arith, s .tasks-are) }
 
--- before the first step nothing but a step may stand
-pub bare : (j : Job) → StepDue j 0 → (k : Kind) → (k ≡ step) ⊎ Holds (not (stands j k))
+-- where a wire may stand there is a rack of topology 3 and no task
+pub wire-placed : (j : Job) → Holds (stands j wire) → Holds (not (noRack j)) × (j .platform .topology ≡ 3) × (j .tasks ≡ [])
+unfolding stands
+wire-placed j s =
+    let a = parts (not (noRack j) && eqb (j .platform .topology) 3) (empty (j .tasks)) s in
+    let b = parts (not (noRack j)) (eqb (j .platform .topology) 3) (a .0) in
+    (b .0, eqb→eq (j .platform .topology) 3 (b .1), empty-nil (j .tasks) (a .1))
+
+-- before the first step nothing but a step may stand, and a wire under topology 3
+pub bare : (j : Job) → StepDue j 0 → (k : Kind) → (k ≡ wire → j .platform .topology ≡ 3 → ⊥) → (k ≡ step) ⊎ Holds (not (stands j k))
 unfolding stands noRack
-bare j s rack = inr (first (not (noRack j)) (empty (j .edges)) (s .placed))
-bare j s step = inl refl
-bare j s link = inr (not-not (empty (j .tasks)) (empty-is (j .tasks) (s .tasks-are)))
-bare j s end = inr (not-not (empty (j .tasks)) (empty-is (j .tasks) (s .tasks-are)))
+bare j s rack h = inr (first (not (noRack j)) (empty (j .edges)) (s .placed))
+bare j s step h = inl refl
+bare j s link h = inr (not-not (empty (j .tasks)) (empty-is (j .tasks) (s .tasks-are)))
+bare j s end h = inr (not-not (empty (j .tasks)) (empty-is (j .tasks) (s .tasks-are)))
+bare j s wire h = inr (fails (stands j wire) (λ t. h refl (wire-placed j t .1)))
 
 -- after steps a link may follow, ..
 pub first-link : (j : Job) (m : ℕ) → 1 ≤ m → length (j .tasks) ≡ m → j .edges ≡ [] → LinkDue j m 0 0

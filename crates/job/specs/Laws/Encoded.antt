@@ -1,9 +1,10 @@
 -- How the reader meets written records, after any job so far: a record's bytes give its values back, so a run of records comes to its
 -- first trouble or to the job with all of them.
 use mathlib.Core.Path.{_≡_, refl, ap, _∙_, sym}
-use mathlib.Core.List.{List, [], _∷_, _++_, append-assoc, flatMap}
+use mathlib.Core.List.{List, [], _∷_, _++_, append-assoc, map, flatMap}
 use Prim.Native.Nat.{ℕ, zero, suc, _+_, _^_, _<_, _≤_}
 use native.Mathlib.Omega.{arith}
+use borrow.Author.Tests.{eq-eqb}
 use lib.Dec.{T as Holds}
 use lib.ListN.{length, getD, take, length-append}
 use lib.Seq.{take-at, drop-at}
@@ -11,15 +12,16 @@ use Rattle.base.specs.Number.{number, bytes}
 use Rattle.base.specs.Laws.Tests.{is-true}
 use Rattle.base.specs.Laws.Number.{length-bytes, number-bytes}
 use Rattle.job.specs.declared.Platform.{Platform}
-use Rattle.job.specs.Job.{Edge, Job, blank, withRack, withTasks, withEdges}
-use Rattle.job.specs.Record.{rack, step, link, end, kindOf, bodyLength, noRack, stands, full, inRange, misfit, added, platformIn}
-use Rattle.job.specs.Record.{durationIn, edgeIn}
+use Rattle.job.specs.Job.{Edge, Wire, ends, Job, blank, withRack, withWires, withTasks, withEdges}
+use Rattle.job.specs.Record.{rack, step, link, end, wire, kindOf, bodyLength, noRack, stands, full, inRange, misfit, added}
+use Rattle.job.specs.Record.{platformIn, durationIn, edgeIn, wireIn, pairsDue, isDue, tooEarly}
 use Rattle.job.specs.Read.{Answer, accepted, refusedOr, after, judged, records}
-use Rattle.job.specs.Write.{rackBytes, stepBytes, linkBytes}
-use Rattle.job.specs.Pass.{key, edge, firstOf, platformTrouble, stepTrouble, linkTrouble, stepsTrouble, linksTrouble, StepDue}
-use Rattle.job.specs.Pass.{LinkDue}
+use Rattle.job.specs.Write.{rackBytes, wireBytes, stepBytes, linkBytes}
+use Rattle.job.specs.Pass.{key, edge, firstOf, platformTrouble, costTrouble, stepTrouble, linkTrouble, wiresTrouble, stepsTrouble}
+use Rattle.job.specs.Pass.{linksTrouble, StepDue, LinkDue}
 use Rattle.job.specs.Laws.Judged.{whole-at}
-use Rattle.job.specs.Laws.Due.{tasks-then, edges-then, no-tasks, no-edges, next-step, next-link, steps-room, links-room}
+use Rattle.job.specs.Laws.Due.{wires-then, tasks-then, edges-then, no-wires, no-tasks, no-edges, due-then, next-step, next-link}
+use Rattle.job.specs.Laws.Due.{steps-room, links-room}
 
 -- the first of two troubles is met first
 pub first-met : (a b : ℕ) (x : Answer) → refusedOr (firstOf a b) x ≡ refusedOr a (refusedOr b x)
@@ -35,26 +37,48 @@ pub read-rack : (p : Platform) (tail : List ℕ) →
 unfolding rackBytes kindOf stands noRack full bodyLength inRange misfit added platformIn platformTrouble blank
 read-rack p tail = whole-at (rackBytes p ++ tail) 0 blank rack (omega arith) refl tt tt (omega arith) (omega arith)
 
+-- one wire, of the next pair due
+read-wire : (j : Job) (w : Wire) (xs : List (ℕ × ℕ)) (tail : List ℕ) → Holds (stands j wire) → pairsDue j ≡ ends w ∷ xs →
+    records (wireBytes w ++ tail) 0 j ≡ refusedOr (costTrouble (w .cost)) (records tail 0 (withWires j (w ∷ [])))
+unfolding wireBytes kindOf bodyLength full inRange misfit added wireIn isDue costTrouble
+read-wire j w xs tail s due =
+    rw (due, eq-eqb (w .from) (w .from) refl, eq-eqb (w .to) (w .to) refl) at
+    (whole-at (wireBytes w ++ tail) 0 j wire (omega arith) refl s tt (omega arith) (omega arith))
+
+pub read-wires : (j : Job) (ws : List Wire) (tail : List ℕ) → (1 ≤ length ws → Holds (stands j wire)) → pairsDue j ≡ map ends ws →
+    records (flatMap wireBytes ws ++ tail) 0 j ≡ refusedOr (wiresTrouble ws) (records tail 0 (withWires j ws))
+unfolding flatMap wiresTrouble stands noRack
+read-wires j [] tail s due = ap (records tail 0) (sym (no-wires j))
+read-wires j (w ∷ ws) tail s due =
+    let i : Job = withWires j (w ∷ []) in
+    let rec : records (flatMap wireBytes ws ++ tail) 0 i ≡ refusedOr (wiresTrouble ws) (records tail 0 (withWires i ws)) =
+    read-wires i ws tail (λ h. s (omega arith)) (due-then j (ends w) (map ends ws) w due) in
+    rw (append-assoc (wireBytes w) (flatMap wireBytes ws) tail)
+    (read-wire j w (map ends ws) (flatMap wireBytes ws ++ tail) (s (omega arith)) due
+    ∙ rw (rec, wires-then j (w ∷ []) ws)
+    (sym (first-met (costTrouble (w .cost)) (wiresTrouble ws) (records tail 0 (withWires j (w ∷ ws))))))
+
 -- one step
-read-step : (j : Job) (m d : ℕ) (tail : List ℕ) → StepDue j m → m < 256 → d < 2 ^ 32 →
+read-step : (j : Job) (m d : ℕ) (tail : List ℕ) → StepDue j m → tooEarly j ≡ 0 → m < 256 → d < 2 ^ 32 →
     records (stepBytes d ++ tail) 0 j ≡ refusedOr (stepTrouble d) (records tail 0 (withTasks j (d ∷ [])))
 unfolding stepBytes kindOf bodyLength inRange misfit added durationIn stepTrouble
-read-step j m d tail s few h =
+read-step j m d tail s wired few h =
     let l : length (bytes 4 d) ≡ 4 = length-bytes 4 d in
-    rw (number-read 4 d tail h, drop-at (bytes 4 d) tail 4 l) at
+    rw (number-read 4 d tail h, drop-at (bytes 4 d) tail 4 l, wired) at
     (whole-at (stepBytes d ++ tail) 0 j step (omega arith) refl (s .placed) (steps-room s few) (omega arith)
     (rw (length-append (bytes 4 d) tail) (omega arith)))
 
-pub read-steps : (j : Job) (m : ℕ) (ds tail : List ℕ) → StepDue j m → ((i : ℕ) → getD ds i 0 < 2 ^ 32) → m + length ds ≤ 256 →
+pub read-steps : (j : Job) (m : ℕ) (ds tail : List ℕ) → StepDue j m → tooEarly j ≡ 0 → ((i : ℕ) → getD ds i 0 < 2 ^ 32)
+    → m + length ds ≤ 256 →
     records (flatMap stepBytes ds ++ tail) 0 j ≡ refusedOr (stepsTrouble ds) (records tail 0 (withTasks j ds))
-unfolding flatMap stepsTrouble
-read-steps j m [] tail s h few = ap (records tail 0) (sym (no-tasks j))
-read-steps j m (d ∷ ds) tail s h few =
+unfolding flatMap stepsTrouble tooEarly pairsDue
+read-steps j m [] tail s wired h few = ap (records tail 0) (sym (no-tasks j))
+read-steps j m (d ∷ ds) tail s wired h few =
     let rec : records (flatMap stepBytes ds ++ tail) 0 (withTasks j (d ∷ [])) ≡
     refusedOr (stepsTrouble ds) (records tail 0 (withTasks (withTasks j (d ∷ [])) ds)) =
-    read-steps (withTasks j (d ∷ [])) (m + 1) ds tail (next-step s (d ∷ []) (m + 1) refl) (λ i. h (suc i)) (omega arith) in
+    read-steps (withTasks j (d ∷ [])) (m + 1) ds tail (next-step s (d ∷ []) (m + 1) refl) wired (λ i. h (suc i)) (omega arith) in
     rw (append-assoc (stepBytes d) (flatMap stepBytes ds) tail)
-    (read-step j m d (flatMap stepBytes ds ++ tail) s (omega arith) (h 0)
+    (read-step j m d (flatMap stepBytes ds ++ tail) s wired (omega arith) (h 0)
     ∙ rw (rec, tasks-then j (d ∷ []) ds) (sym (first-met (stepTrouble d) (stepsTrouble ds) (records tail 0 (withTasks j (d ∷ ds))))))
 
 -- one link

@@ -12,10 +12,10 @@ use lib.Seq.{drop-cons, drop-drop}
 use Rattle.base.specs.Choice.{pick}
 use Rattle.base.specs.Laws.Tests.{is-true, is-not, when-false}
 use Rattle.job.specs.Job.{Job}
-use Rattle.job.specs.Record.{Kind, rack, step, link, end, kindOf, bodyLength, stands, full, inRange, edgeIn, joins, aboveLast, misfit}
-use Rattle.job.specs.Record.{added}
+use Rattle.job.specs.Record.{Kind, rack, step, link, end, wire, kindOf, bodyLength, empty, stands, full, inRange, edgeIn, wireIn}
+use Rattle.job.specs.Record.{joins, aboveLast, pairsDue, isDue, tooEarly, misfit, added}
 use Rattle.job.specs.Read.{Answer, refused, refusedOr, after, judged, records}
-use Rattle.job.specs.Cause.{Cause, bad-ends, not-above}
+use Rattle.job.specs.Cause.{Cause, bad-ends, not-above, not-due, too-early}
 use Rattle.job.specs.Pass.{firstOf}
 
 -- the bytes of a judged body are passed over
@@ -44,6 +44,11 @@ passes (suc n) a h = let z : ⊥ = omega arith in absurd z
 pub stops : (n : ℕ) (a : Answer) → (n ≡ 0 → ⊥) → refusedOr n a ≡ refused n
 stops zero a h = absurd (h refl)
 stops (suc n) a h = refl
+
+-- past a trouble's number only where there is none
+pub under : (n : ℕ) (x y : Answer) → (n ≡ 0 → x ≡ y) → refusedOr n x ≡ refusedOr n y
+under zero x y h = h refl
+under (suc n) x y h = refl
 
 -- the first of two troubles
 pub first-some : (a b : ℕ) → (a ≡ 0 → ⊥) → firstOf a b ≡ a
@@ -92,6 +97,7 @@ unfolding after bodyLength
 passed rack rest j more h = refl
 passed step rest j more h = refl
 passed link rest j more h = refl
+passed wire rest j more h = refl
 passed end rest j more h = let n : ⊥ = omega arith in absurd n
 
 -- the record at a place of a file, where its kind may stand
@@ -127,10 +133,32 @@ pub link-fits : (j : Job) (rest : List ℕ) → misfit j link rest ≡ 0 →
 unfolding misfit
 link-fits j rest e = misfit-none (joins (length (j .tasks)) (edgeIn rest)) (aboveLast (j .edges) (edgeIn rest)) e
 
-pub misfit-cause : (j : Job) (k : Kind) (rest : List ℕ) (n : ℕ) → misfit j k rest ≡ suc n → Cause rest j (some k) (suc n)
+-- the misfit of a wire, or of a step that comes too early: 14 where the test fails
+one-misfit : (t : Bool) → _≡_ {A = ℕ} (pick (not t) 14 0) 0 → Holds t
+one-misfit true e = tt
+one-misfit false e = let n : ⊥ = omega arith in absurd n
+
+pub wire-fits : (j : Job) (rest : List ℕ) → misfit j wire rest ≡ 0 → Holds (isDue (pairsDue j) (wireIn rest))
 unfolding misfit
+wire-fits j rest e = one-misfit (isDue (pairsDue j) (wireIn rest)) e
+
+pub in-time : (j : Job) → tooEarly j ≡ 0 → Holds (empty (pairsDue j))
+unfolding tooEarly
+in-time j e = one-misfit (empty (pairsDue j)) e
+
+pub misfit-cause : (j : Job) (k : Kind) (rest : List ℕ) (n : ℕ) → misfit j k rest ≡ suc n → Cause rest j (some k) (suc n)
+unfolding misfit tooEarly
 misfit-cause j rack rest n e = let z : ⊥ = omega arith in absurd z
-misfit-cause j step rest n e = let z : ⊥ = omega arith in absurd z
+misfit-cause j step rest n e = go (empty (pairsDue j)) refl e
+  where
+    go : (t : Bool) → empty (pairsDue j) ≡ t → pick (not t) 14 0 ≡ suc n → Cause rest j (some step) (suc n)
+    go false h q = rw (← q) (too-early (when-false h))
+    go true h q = let z : ⊥ = omega arith in absurd z
+misfit-cause j wire rest n e = go (isDue (pairsDue j) (wireIn rest)) refl e
+  where
+    go : (t : Bool) → isDue (pairsDue j) (wireIn rest) ≡ t → pick (not t) 14 0 ≡ suc n → Cause rest j (some wire) (suc n)
+    go false h q = rw (← q) (not-due (when-false h))
+    go true h q = let z : ⊥ = omega arith in absurd z
 misfit-cause j end rest n e = let z : ⊥ = omega arith in absurd z
 misfit-cause j link rest n e = go (joins (length (j .tasks)) (edgeIn rest)) (aboveLast (j .edges) (edgeIn rest)) refl refl e
   where

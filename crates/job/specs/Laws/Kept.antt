@@ -1,23 +1,26 @@
 -- What the reader keeps: after the rack, each turn leaves a job whose parts have passed their tests, so an accepted job has (`kept`).
 -- By induction on the chain of turns.
-use mathlib.Core.Bool.{true, false, not}
-use mathlib.Core.Path.{_≡_, ap}
-use mathlib.Core.List.{List}
+use mathlib.Core.Bool.{Bool, true, false, not, _&&_}
+use mathlib.Core.Path.{_≡_, refl, ap, sym, _∙_}
+use mathlib.Core.List.{List, [], _∷_, _++_, append-assoc, map, map-append}
 use Prim.Native.Nat.{ℕ, _≤_}
 use native.Mathlib.Omega.{arith}
-use lib.Dec.{nleb→lt, eqb→eq}
+use lib.Dec.{eqb, nleb→lt, eqb→eq, leb→le}
 use lib.Dec.{T as Holds}
 use lib.ListN.{length, length-append}
+use Rattle.base.specs.Choice.{pick}
 use Rattle.base.specs.Laws.Tests.{impossible, second}
-use Rattle.job.specs.Job.{Edge, Job, blank}
-use Rattle.job.specs.Limits.{mostTasks, mostEdges}
-use Rattle.job.specs.Record.{Kind, rack, step, link, end, durationIn, edgeIn, empty, noRack, stands, full, platformInRange}
-use Rattle.job.specs.Record.{durationInRange, countInRange, inRange, joins, added}
+use Rattle.job.specs.Job.{Edge, Wire, ends, wireCost, Job, blank}
+use Rattle.job.specs.Limits.{mostWireCost, mostTasks, mostEdges}
+use Rattle.job.specs.Record.{Kind, rack, step, link, end, wire, durationIn, edgeIn, wireIn, empty, noRack, stands, full}
+use Rattle.job.specs.Record.{platformInRange}
+use Rattle.job.specs.Record.{durationInRange, countInRange, costInRange, inRange, joins, wirePairs, pairsDue, misfit, added}
 use Rattle.job.specs.Read.{Answer, accepted}
 use Rattle.job.specs.Cause.{Untroubled}
 use Rattle.job.specs.Laws.Turn.{Reads, no-more, halted, past, closed}
 use Rattle.job.specs.Laws.Lists.{empty-nil, some-in, Each, each-more, Rising, rising-more}
-use Rattle.job.specs.Laws.Judged.{link-fits}
+use Rattle.job.specs.Laws.Judged.{link-fits, wire-fits, in-time}
+use Rattle.job.specs.Laws.Due.{wire-placed, due-ends, due-then}
 use Rattle.job.specs.Laws.Tests.{platform-facts}
 
 -- what stands past the last edge
@@ -27,6 +30,9 @@ noEdge = record { from = 0; to = 0; count = 0 }
 -- a job after its rack: its parts have passed their tests
 pub record Kept (j : Job) : Type 0 where
   pub platform-right : Holds (platformInRange (j .platform))
+  pub wires-stand : map ends (j .wires) ++ pairsDue j ≡ wirePairs (j .platform)
+  pub wires-cheap : (p q : ℕ) → wireCost (j .wires) p q ≤ mostWireCost
+  pub tasks-wired : 1 ≤ length (j .tasks) → pairsDue j ≡ []
   pub few-tasks : length (j .tasks) ≤ mostTasks
   pub tasks-right : Each durationInRange 0 (j .tasks)
   pub few-edges : length (j .edges) ≤ mostEdges
@@ -41,9 +47,12 @@ pub data SoFar : Job → Type 0 where
 
 -- each record that fits keeps it so
 with-rack : (rest : List ℕ) → Untroubled rest blank rack → Kept (added blank rack rest)
-unfolding added inRange blank
+unfolding added inRange blank pairsDue wireCost
 with-rack rest f = record {
   platform-right = f .ranges;
+  wires-stand = refl;
+  wires-cheap = λ p q. omega arith;
+  tasks-wired = λ h. absurd (omega arith);
   few-tasks = omega arith;
   tasks-right = λ i h. let n : ⊥ = omega arith in absurd n;
   few-edges = omega arith;
@@ -52,12 +61,52 @@ with-rack rest f = record {
   edges-rise = λ i h. let n : ⊥ = omega arith in absurd n;
 }
 
+-- the wire of the pair that is due
+cost-more : (ws : List Wire) (w : Wire) (p q : ℕ) → wireCost ws p q ≤ mostWireCost → w .cost ≤ mostWireCost
+    → wireCost (ws ++ (w ∷ [])) p q ≤ mostWireCost
+unfolding wireCost
+cost-more [] w p q h k = go (eqb (w .from) p && eqb (w .to) q)
+  where
+    go : (t : Bool) → pick t (w .cost) 0 ≤ mostWireCost
+    go true = k
+    go false = omega arith
+cost-more (v ∷ ws) w p q h k = go (eqb (v .from) p && eqb (v .to) q) h (λ g. cost-more ws w p q g k)
+  where
+    go : (t : Bool) → pick t (v .cost) (wireCost ws p q) ≤ mostWireCost
+        → (wireCost ws p q ≤ mostWireCost → wireCost (ws ++ (w ∷ [])) p q ≤ mostWireCost)
+        → pick t (v .cost) (wireCost (ws ++ (w ∷ [])) p q) ≤ mostWireCost
+    go true h more = h
+    go false h more = more h
+
+with-wire : (rest : List ℕ) (j : Job) → Kept j → Untroubled rest j wire → Kept (added j wire rest)
+unfolding added stands inRange costInRange
+with-wire rest j b f =
+    let w : Wire = wireIn rest in
+    let d = due-ends (pairsDue j) w (wire-fits j rest (f .fits)) in
+    record {
+      platform-right = b .platform-right;
+      wires-stand = rw (due-then j (ends w) (d .0) w (d .1), map-append ends (j .wires) (w ∷ []))
+          (append-assoc (map ends (j .wires)) (ends w ∷ []) (d .0)
+          ∙ ap (λ (l : List (ℕ × ℕ)). map ends (j .wires) ++ l) (sym (d .1)) ∙ b .wires-stand);
+      wires-cheap = λ p q. cost-more (j .wires) w p q (b .wires-cheap p q) (leb→le (w .cost) mostWireCost (f .ranges));
+      tasks-wired = λ h. absurd (omega (arith, ap length (wire-placed j (f .placed) .2)));
+      few-tasks = b .few-tasks;
+      tasks-right = b .tasks-right;
+      few-edges = b .few-edges;
+      counts-right = b .counts-right;
+      edges-join = b .edges-join;
+      edges-rise = b .edges-rise;
+    }
+
 with-step : (rest : List ℕ) (j : Job) → Kept j → Untroubled rest j step → Kept (added j step rest)
-unfolding added stands full inRange
+unfolding added stands full inRange misfit pairsDue
 with-step rest j b f =
     let z : length (j .edges) ≡ 0 = ap length (empty-nil (j .edges) (second (not (noRack j)) (empty (j .edges)) (f .placed))) in
     record {
       platform-right = b .platform-right;
+      wires-stand = b .wires-stand;
+      wires-cheap = b .wires-cheap;
+      tasks-wired = λ h. empty-nil (pairsDue j) (in-time j (f .fits));
       few-tasks = simp length-append (omega (arith, nleb→lt mostTasks (length (j .tasks)) (f .room)));
       tasks-right = each-more durationInRange 0 (j .tasks) (durationIn rest) (b .tasks-right) (f .ranges);
       few-edges = b .few-edges;
@@ -67,11 +116,14 @@ with-step rest j b f =
     }
 
 with-link : (rest : List ℕ) (j : Job) → Kept j → Untroubled rest j link → Kept (added j link rest)
-unfolding added full inRange
+unfolding added full inRange pairsDue
 with-link rest j b f =
     let g = link-fits j rest (f .fits) in
     record {
       platform-right = b .platform-right;
+      wires-stand = b .wires-stand;
+      wires-cheap = b .wires-cheap;
+      tasks-wired = b .tasks-wired;
       few-tasks = b .few-tasks;
       tasks-right = b .tasks-right;
       few-edges = simp length-append (omega (arith, nleb→lt mostEdges (length (j .edges)) (f .room)));
@@ -93,6 +145,8 @@ grown step rest {j} (begun b) f = begun (with-step rest j b f)
 grown link rest nothing f = absurd (f .placed)
 grown link rest {j} (begun b) f = begun (with-link rest j b f)
 grown end rest s f = s
+grown wire rest nothing f = absurd (f .placed)
+grown wire rest {j} (begun b) f = begun (with-wire rest j b f)
 
 ready : {j : Job} → SoFar j → Holds (stands j end) → Kept j × (1 ≤ length (j .tasks))
 unfolding stands blank

@@ -2,26 +2,28 @@
 use mathlib.Core.Bool.{Bool, true, false, not}
 use mathlib.Core.Logic.{_⊎_, inl, inr, ⊎-elim}
 use mathlib.Core.Path.{_≡_, refl, ap, sym, _∙_}
-use mathlib.Core.List.{List, [], _∷_, _++_, flatMap}
+use mathlib.Core.List.{List, [], _∷_, _++_, append-nil, map, flatMap}
 use Prim.Native.Nat.{ℕ, zero, suc, _+_, _^_, _≤_, _<_}
 use native.Mathlib.Omega.{arith}
 use lib.Dec.{leb}
-use lib.ListN.{length, getD}
+use lib.ListN.{length, getD, length-map}
 use Rattle.base.specs.Choice.{pick}
 use Rattle.base.specs.Laws.Tests.{impossible, when-true, when-false}
 use Rattle.base.specs.Laws.Values.{length-values, each-value}
 use Rattle.job.specs.declared.Arrays.{Arrays}
 use Rattle.job.specs.declared.Platform.{Platform}
 use Rattle.job.specs.declared.Written.the-variants.{Refused}
-use Rattle.job.specs.Job.{Edge, Job, blank, withRack, withTasks}
-use Rattle.job.specs.Record.{kindOf, empty, stands, platformInRange, durationInRange, countInRange, joins}
-use Rattle.job.specs.Read.{Answer, accepted, refused, refusedOr, judged, records, readJob}
-use Rattle.job.specs.Write.{stepBytes, linkBytes, fileOf, edgeHeld, heldJob, Held, roomFor, tooMany, writeAnswer}
-use Rattle.job.specs.Pass.{edge, key, firstOf, platformTrouble, stepTrouble, linkTrouble, stepsTrouble, linksTrouble, jobTrouble, Met}
-use Rattle.job.specs.Pass.{LinkDue}
-use Rattle.job.specs.Laws.Judged.{passes, stops}
-use Rattle.job.specs.Laws.Due.{racked, first-step, first-link}
-use Rattle.job.specs.Laws.Encoded.{first-met, read-rack, read-steps, read-links, read-end}
+use Rattle.job.specs.Job.{Edge, Wire, ends, Job, blank, withRack, withWires, withTasks}
+use Rattle.job.specs.Record.{kindOf, empty, stands, platformInRange, durationInRange, countInRange, costInRange, joins}
+use Rattle.job.specs.Record.{wirePairs, tooEarly}
+use Rattle.job.specs.Read.{accepted, refused, refusedOr, judged, records, readJob}
+use Rattle.job.specs.Write.{wireBytes, stepBytes, linkBytes, fileOf, edgeHeld, heldJob, Held, roomFor, tooMany, writeAnswer}
+use Rattle.job.specs.Pass.{edge, key, firstOf, platformTrouble, costTrouble, stepTrouble, linkTrouble, wiresTrouble, stepsTrouble}
+use Rattle.job.specs.Pass.{linksTrouble, jobTrouble, Met, LinkDue}
+use Rattle.job.specs.Laws.Judged.{under, passes, stops}
+use Rattle.job.specs.Laws.Due.{racked, first-wire, all-due, due-after, wired-up, first-step, first-link}
+use Rattle.job.specs.Laws.Encoded.{first-met, read-rack, read-wires, read-steps, read-links, read-end}
+use Rattle.job.specs.Laws.Wires.{held-ends}
 use Rattle.job.specs.Laws.Lists.{empty-nil, some-in}
 use Rattle.job.specs.Laws.Halt.{few-counts, room-refused}
 
@@ -36,6 +38,11 @@ first-number (suc a) b x y = x
 range-number : (t : Bool) → Number (pick (not t) 4 0)
 range-number true = inl refl
 range-number false = inr (omega arith)
+
+wires-number : (ws : List Wire) → Number (wiresTrouble ws)
+unfolding wiresTrouble costTrouble
+wires-number [] = inl refl
+wires-number (w ∷ ws) = first-number (costTrouble (w .cost)) (wiresTrouble ws) (range-number (costInRange (w .cost))) (wires-number ws)
 
 steps-number : (ds : List ℕ) → Number (stepsTrouble ds)
 unfolding stepsTrouble stepTrouble
@@ -63,84 +70,115 @@ job-number : (j : Job) → Number (jobTrouble j)
 unfolding jobTrouble platformTrouble
 job-number j =
     first-number _ _ (range-number (platformInRange (j .platform)))
+    (first-number _ _ (wires-number (j .wires))
     (first-number _ _ (none-number (empty (j .tasks)))
-    (first-number _ _ (steps-number (j .tasks)) (links-number (length (j .tasks)) 0 (j .edges))))
+    (first-number _ _ (steps-number (j .tasks)) (links-number (length (j .tasks)) 0 (j .edges)))))
 
 -- a job whose numbers have as many bytes as a file has for them, and that has as many records as a file can have
 pub record Writable (j : Job) : Type 0 where
   pub few-tasks : length (j .tasks) ≤ 256
   pub few-edges : length (j .edges) ≤ 1024
+  pub wires-stand : map ends (j .wires) ≡ wirePairs (j .platform)
   pub duration-fits : (t : ℕ) → getD (j .tasks) t 0 < 2 ^ 32
   pub edge-fits : (i : ℕ) → (getD (j .edges) i (edge 0 0 0) .to < 256) × (getD (j .edges) i (edge 0 0 0) .count < 2 ^ 16)
 
--- past a trouble's number only where there is none
-under : (n : ℕ) (x y : Answer) → (n ≡ 0 → x ≡ y) → refusedOr n x ≡ refusedOr n y
-under zero x y h = h refl
-under (suc n) x y h = refl
+-- a job without tasks: the reader meets a link or the end where a step is due
+untasked : (p : Platform) (ws : List Wire) (es : List Edge)
+    → records (flatMap linkBytes es ++ (4 ∷ [])) 0 (withWires (withRack blank p) ws) ≡ refused 3
+unfolding records kindOf judged stands flatMap linkBytes blank
+untasked p ws [] = refl
+untasked p ws (e ∷ es) = refl
 
-module _ (p : Platform) (n : 1 ≤ p .processors) where
-  -- a job without tasks: the reader meets a link or the end where a step is due
-  untasked : (es : List Edge) → records (flatMap linkBytes es ++ (4 ∷ [])) 0 (withRack blank p) ≡ refused 3
-  unfolding records kindOf judged stands flatMap linkBytes blank
-  untasked [] = refl
-  untasked (e ∷ es) = refl
+-- the rack's wires, those of its pairs: they are met, and then a step is due
+module _ (p : Platform) (ws : List Wire) (n : 1 ≤ p .processors) (stand : map ends ws ≡ wirePairs p) where
+  met-wires : (tail : List ℕ)
+      → records (flatMap wireBytes ws ++ tail) 0 (withRack blank p)
+      ≡ refusedOr (wiresTrouble ws) (records tail 0 (withWires (withRack blank p) ws))
+  met-wires tail =
+      read-wires (withRack blank p) ws tail (λ h. first-wire p n (rw (← stand, length-map ws ends) h)) (all-due p ∙ sym stand)
+
+  all-wired : tooEarly (withWires (withRack blank p) ws) ≡ 0
+  unfolding blank
+  all-wired = wired-up (withWires (withRack blank p) ws) (due-after (withWires (withRack blank p) ws) [] (append-nil (map ends ws) ∙ stand))
 
 module _ (j : Job) (w : Writable j) where
   abbrev links : List ℕ
   links = flatMap linkBytes (j .edges) ++ (4 ∷ [])
 
-  -- what is left after the rack: no task, or steps and links
-  after-rack : 1 ≤ j .platform .processors → records (flatMap stepBytes (j .tasks) ++ links) 0 (withRack blank (j .platform)) ≡
+  -- the rack and its wires
+  abbrev platformed : Job
+  platformed = withWires (withRack blank (j .platform)) (j .wires)
+
+  -- what is left after them: no task, or steps and links
+  after-wires : 1 ≤ j .platform .processors → records (flatMap stepBytes (j .tasks) ++ links) 0 platformed ≡
       refusedOr (firstOf (pick (empty (j .tasks)) 3 0) (firstOf (stepsTrouble (j .tasks)) (linksTrouble (length (j .tasks)) 0 (j .edges))))
       (accepted j)
   unfolding flatMap blank stands
-  after-rack n = go (empty (j .tasks)) refl
+  after-wires n = go (empty (j .tasks)) refl
     where
-      go : (b : Bool) → empty (j .tasks) ≡ b → records (flatMap stepBytes (j .tasks) ++ links) 0 (withRack blank (j .platform)) ≡
+      go : (b : Bool) → empty (j .tasks) ≡ b → records (flatMap stepBytes (j .tasks) ++ links) 0 platformed ≡
           refusedOr (firstOf (pick b 3 0) (firstOf (stepsTrouble (j .tasks)) (linksTrouble (length (j .tasks)) 0 (j .edges)))) (accepted j)
-      go true e = rw (empty-nil (j .tasks) (when-true e)) (untasked (j .platform) n (j .edges))
+      go true e = rw (empty-nil (j .tasks) (when-true e)) (untasked (j .platform) (j .wires) (j .edges))
       go false e =
-          let i : Job = withTasks (withRack blank (j .platform)) (j .tasks) in
+          let i : Job = withTasks platformed (j .tasks) in
           let d : LinkDue i (length (j .tasks)) 0 0 = first-link i (length (j .tasks)) (some-in (j .tasks) (when-false e)) refl refl in
-          read-steps (withRack blank (j .platform)) 0 (j .tasks) links (first-step (j .platform) n) (w .duration-fits)
-          (omega (arith, w .few-tasks))
+          read-steps platformed 0 (j .tasks) links (first-step (j .platform) (j .wires) n)
+          (all-wired (j .platform) (j .wires) n (w .wires-stand)) (w .duration-fits) (omega (arith, w .few-tasks))
           ∙ ap (refusedOr (stepsTrouble (j .tasks)))
           (read-links i (length (j .tasks)) 0 0 (j .edges) (4 ∷ []) d (w .edge-fits) (omega (arith, w .few-edges))
           ∙ ap (refusedOr (linksTrouble (length (j .tasks)) 0 (j .edges))) (read-end j (when-false e)))
           ∙ sym (first-met (stepsTrouble (j .tasks)) (linksTrouble (length (j .tasks)) 0 (j .edges)) (accepted j))
 
+  -- what is left after the rack
+  after-rack : 1 ≤ j .platform .processors
+      → records (flatMap wireBytes (j .wires) ++ (flatMap stepBytes (j .tasks) ++ links)) 0 (withRack blank (j .platform)) ≡
+      refusedOr (firstOf (wiresTrouble (j .wires)) (firstOf (pick (empty (j .tasks)) 3 0)
+      (firstOf (stepsTrouble (j .tasks)) (linksTrouble (length (j .tasks)) 0 (j .edges))))) (accepted j)
+  after-rack n =
+      met-wires (j .platform) (j .wires) n (w .wires-stand) (flatMap stepBytes (j .tasks) ++ links)
+      ∙ ap (refusedOr (wiresTrouble (j .wires))) (after-wires n)
+      ∙ sym (first-met (wiresTrouble (j .wires)) _ (accepted j))
+
   pub met : Met j (jobTrouble j)
   unfolding readJob fileOf jobTrouble
   met =
-      read-rack (j .platform) (flatMap stepBytes (j .tasks) ++ links)
+      read-rack (j .platform) (flatMap wireBytes (j .wires) ++ (flatMap stepBytes (j .tasks) ++ links))
       ∙ under (platformTrouble (j .platform)) _ _ (λ e. after-rack (racked (j .platform) e))
       ∙ sym (first-met (platformTrouble (j .platform)) _ (accepted j))
 
--- a trouble that is met before all records are read: in the rack, for want of a step, in a step
+-- a trouble that is met before all records are read: in the rack, in a wire, for want of a step, in a step
 module _ (j : Job) where
   abbrev steps : List ℕ
   steps = flatMap stepBytes (j .tasks) ++ (flatMap linkBytes (j .edges) ++ (4 ∷ []))
 
   pub met-rack : (r : ℕ) → r ≡ platformTrouble (j .platform) → (r ≡ 0 → ⊥) → Met j r
   unfolding readJob fileOf
-  met-rack r is n = read-rack (j .platform) steps ∙ rw (← is) (stops r _ n ∙ sym (stops r (accepted j) n))
+  met-rack r is n = read-rack (j .platform) (flatMap wireBytes (j .wires) ++ steps) ∙ rw (← is) (stops r _ n ∙ sym (stops r (accepted j) n))
 
-  module _ (e : platformTrouble (j .platform) ≡ 0) where
-    past-rack : readJob (fileOf j) ≡ records steps 0 (withRack blank (j .platform))
+  module _ (e : platformTrouble (j .platform) ≡ 0) (stand : map ends (j .wires) ≡ wirePairs (j .platform)) where
+    past-rack : readJob (fileOf j)
+        ≡ refusedOr (wiresTrouble (j .wires)) (records steps 0 (withWires (withRack blank (j .platform)) (j .wires)))
     unfolding readJob fileOf
-    past-rack = read-rack (j .platform) steps ∙ passes (platformTrouble (j .platform)) _ e
+    past-rack =
+        read-rack (j .platform) (flatMap wireBytes (j .wires) ++ steps) ∙ passes (platformTrouble (j .platform)) _ e
+        ∙ met-wires (j .platform) (j .wires) (racked (j .platform) e) stand steps
 
-    pub met-none : j .tasks ≡ [] → Met j 3
-    unfolding flatMap
-    met-none h = past-rack ∙ rw h (untasked (j .platform) (racked (j .platform) e) (j .edges))
+    pub met-wire : (r : ℕ) → r ≡ wiresTrouble (j .wires) → (r ≡ 0 → ⊥) → Met j r
+    met-wire r is n = past-rack ∙ rw (← is) (stops r _ n ∙ sym (stops r (accepted j) n))
 
-    pub met-step : ((i : ℕ) → getD (j .tasks) i 0 < 2 ^ 32) → length (j .tasks) ≤ 256 →
-        (r : ℕ) → r ≡ stepsTrouble (j .tasks) → (r ≡ 0 → ⊥) → Met j r
-    met-step fits few r is n =
-        past-rack
-        ∙ read-steps (withRack blank (j .platform)) 0 (j .tasks) (flatMap linkBytes (j .edges) ++ (4 ∷ []))
-        (first-step (j .platform) (racked (j .platform) e)) fits (omega arith)
-        ∙ rw (← is) (stops r _ n ∙ sym (stops r (accepted j) n))
+    module _ (f : wiresTrouble (j .wires) ≡ 0) where
+      pub met-none : j .tasks ≡ [] → Met j 3
+      unfolding flatMap
+      met-none h = past-rack ∙ passes (wiresTrouble (j .wires)) _ f ∙ rw h (untasked (j .platform) (j .wires) (j .edges))
+
+      pub met-step : ((i : ℕ) → getD (j .tasks) i 0 < 2 ^ 32) → length (j .tasks) ≤ 256 →
+          (r : ℕ) → r ≡ stepsTrouble (j .tasks) → (r ≡ 0 → ⊥) → Met j r
+      met-step fits few r is n =
+          past-rack ∙ passes (wiresTrouble (j .wires)) _ f
+          ∙ read-steps (withWires (withRack blank (j .platform)) (j .wires)) 0 (j .tasks) (flatMap linkBytes (j .edges) ++ (4 ∷ []))
+          (first-step (j .platform) (j .wires) (racked (j .platform) e)) (all-wired (j .platform) (j .wires) (racked (j .platform) e) stand)
+          fits (omega arith)
+          ∙ rw (← is) (stops r _ n ∙ sym (stops r (accepted j) n))
 
 -- an accepted file of a job is accepted as this job
 pub met-accepted : (n : ℕ) (j i : Job) → refusedOr n (accepted j) ≡ accepted i → i ≡ j
@@ -160,6 +198,7 @@ met-refused t n j (inr h) e =
 pub held-writable : (p : Platform) (m l : ℕ) (a : Arrays) → (m ≤ 256) × (l ≤ 1024) → Held a → Writable (heldJob p m l a)
 unfolding heldJob edgeHeld
 held-writable p m l a few h = record {
+  wires-stand = held-ends (a .wires) (wirePairs p);
   few-tasks = omega (arith, length-values (λ t. getD (a .durations) t 0) 0 m);
   few-edges = omega (arith, length-values (edgeHeld (a .from) (a .to) (a .counts)) 0 l);
   duration-fits = each-value (λ t. getD (a .durations) t 0) (λ d. d < 2 ^ 32) 0 (omega arith) (h .duration-fits) 0 m;

@@ -2,13 +2,13 @@
 -- since a number's bytes are those that it was read from.
 use mathlib.Core.Bool.{true, false, not}
 use mathlib.Core.Path.{_≡_, refl, ap, _∙_, sym}
-use mathlib.Core.List.{List, [], _∷_, _++_, append-assoc, append-nil, flatMap}
+use mathlib.Core.List.{List, [], _∷_, _++_, append-assoc, append-nil, map, flatMap}
 use Prim.Native.Nat.{ℕ, zero, suc, _≤_}
 use native.Mathlib.Omega.{arith}
 use borrow.Author.Tests.{le-ltb}
 use lib.Dec.{eqb, eqb→eq}
 use lib.Dec.{T as Holds}
-use lib.ListN.{length, take, drop, take-append-drop}
+use lib.ListN.{length, take, drop, take-append-drop, length-map}
 use lib.Seq.{length-take-le}
 use Rattle.base.specs.Number.{number, bytes, Bytes, none, more}
 use Rattle.base.specs.Laws.Tests.{impossible, second}
@@ -16,25 +16,28 @@ use Rattle.base.specs.Laws.Number.{bytes-number}
 use Rattle.base.specs.Laws.Stored.{flat-append}
 use Rattle.job.specs.declared.Platform.{Platform}
 use Rattle.job.specs.declared.Written.the-variants.{Length}
-use Rattle.job.specs.Job.{Edge, Job, blank, withTasks, withEdges}
-use Rattle.job.specs.Record.{Kind, rack, step, link, end, bodyLength, empty, noRack, stands, inRange, added, platformIn, durationIn}
-use Rattle.job.specs.Record.{edgeIn}
+use Rattle.job.specs.Job.{Edge, Wire, ends, Job, blank, withWires, withTasks, withEdges}
+use Rattle.job.specs.Record.{Kind, rack, step, link, end, wire, bodyLength, empty, noRack, stands, inRange, added, platformIn}
+use Rattle.job.specs.Record.{durationIn, edgeIn, wireIn, wirePairs}
 use Rattle.job.specs.Read.{Answer, accepted, readJob}
-use Rattle.job.specs.Write.{rackBytes, stepBytes, linkBytes, fileOf, greatestLength, roomFor, tooMany, writeAnswer, writeOut}
+use Rattle.job.specs.Write.{rackBytes, wireBytes, stepBytes, linkBytes, fileOf, greatestLength, roomFor, tooMany}
+use Rattle.job.specs.Write.{writeAnswer, writeOut}
 use Rattle.job.specs.Cause.{Untroubled}
 use Rattle.job.specs.Laws.Tests.{platform-facts}
 use Rattle.job.specs.Laws.Written.{file-size}
-use Rattle.job.specs.Laws.Lists.{empty-nil}
+use Rattle.job.specs.Laws.Lists.{empty-nil, some-in}
+use Rattle.job.specs.Laws.Due.{wire-placed}
+use Rattle.job.specs.Laws.Wires.{few-pairs}
 use Rattle.job.specs.Laws.Kinds.{kindByte, kind-byte}
 use Rattle.job.specs.Laws.Turn.{Reads, no-more, halted, past, closed, reads}
 
 -- the job so far, and the bytes that it was read from
 abbrev bytesOf : Job → List ℕ
-bytesOf j = rackBytes (j .platform) ++ (flatMap stepBytes (j .tasks) ++ flatMap linkBytes (j .edges))
+bytesOf j = rackBytes (j .platform) ++ (flatMap wireBytes (j .wires) ++ (flatMap stepBytes (j .tasks) ++ flatMap linkBytes (j .edges)))
 
 data ReadFrom : Job → List ℕ → Type 0 where
   start : ReadFrom blank []
-  under-way : {j : Job} {bs : List ℕ} → 1 ≤ j .platform .processors → bs ≡ bytesOf j → ReadFrom j bs
+  under-way : {j : Job} {bs : List ℕ} → 1 ≤ j .platform .processors → (j .tasks ≡ [] → j .edges ≡ []) → bs ≡ bytesOf j → ReadFrom j bs
 
 bytes-take : (n : ℕ) (bs : List ℕ) → Bytes bs → Bytes (take n bs)
 bytes-take zero bs h = none
@@ -58,6 +61,13 @@ rack-bytes (a ∷ []) h = absurd (omega arith)
 rack-bytes (a ∷ b ∷ []) h = absurd (omega arith)
 rack-bytes (a ∷ b ∷ c ∷ rest) h = refl
 
+wire-bytes : (rest : List ℕ) → 3 ≤ length rest → wireBytes (wireIn rest) ≡ 5 ∷ take 3 rest
+unfolding wireBytes wireIn
+wire-bytes [] h = absurd (omega arith)
+wire-bytes (a ∷ []) h = absurd (omega arith)
+wire-bytes (a ∷ b ∷ []) h = absurd (omega arith)
+wire-bytes (a ∷ b ∷ c ∷ rest) h = refl
+
 step-bytes : (rest : List ℕ) → Bytes rest → 4 ≤ length rest → stepBytes (durationIn rest) ≡ 2 ∷ take 4 rest
 unfolding stepBytes durationIn
 step-bytes rest b h = rw (bytes-back 4 rest)
@@ -78,34 +88,53 @@ grown : (k : Kind) (rest : List ℕ) (j : Job) (bs : List ℕ) → 1 ≤ bodyLen
 unfolding bodyLength added stands noRack inRange blank flatMap
 grown rack rest j bs h b f start =
     let p : Platform = platformIn rest in
-    under-way (platform-facts p (f .ranges) .0) (sym (rack-bytes rest (f .whole)) ∙ sym (append-nil (rackBytes p)))
-grown rack rest j bs h b f (under-way n e) =
+    under-way (platform-facts p (f .ranges) .0) (λ t. refl) (sym (rack-bytes rest (f .whole)) ∙ sym (append-nil (rackBytes p)))
+grown rack rest j bs h b f (under-way n u e) =
     let z : j .platform .processors ≡ 0 = eqb→eq (j .platform .processors) 0 (f .placed) in absurd (omega arith)
 grown step rest j bs h b f start = absurd (f .placed)
-grown step rest j bs h b f (under-way n e) =
+grown wire rest j bs h b f start = absurd (f .placed)
+grown wire rest j bs h b f (under-way n u e) =
+    let w : Wire = wireIn rest in
+    let wires : List ℕ = flatMap wireBytes (j .wires) in
+    let none : j .tasks ≡ [] = wire-placed j (f .placed) .2 in
+    let none′ : j .edges ≡ [] = u none in
+    let q : bs ++ (5 ∷ take 3 rest) ≡ bytesOf (withWires j (w ∷ [])) =
+    rw (
+      e,
+      none,
+      none′,
+      ← wire-bytes rest (f .whole),
+      append-nil wires,
+      flatMap-more wireBytes (j .wires) w,
+      append-nil (wires ++ wireBytes w),
+    )
+    (simp append-assoc) in
+    under-way n u q
+grown step rest j bs h b f (under-way n u e) =
     let d : ℕ = durationIn rest in
     let steps : List ℕ = flatMap stepBytes (j .tasks) in
     let none : j .edges ≡ [] = empty-nil (j .edges) (second (not (eqb (j .platform .processors) 0)) (empty (j .edges)) (f .placed)) in
     let q : bs ++ (2 ∷ take 4 rest) ≡ bytesOf (withTasks j (d ∷ [])) =
     rw (e, none, ← step-bytes rest b (f .whole), append-nil steps, flatMap-more stepBytes (j .tasks) d, append-nil (steps ++ stepBytes d))
     (simp append-assoc) in
-    under-way n q
+    under-way n (λ t. none) q
 grown link rest j bs h b f start = absurd (f .placed)
-grown link rest j bs h b f (under-way n e) =
+grown link rest j bs h b f (under-way n u e) =
     let x : Edge = edgeIn rest in
     let steps : List ℕ = flatMap stepBytes (j .tasks) in
     let links : List ℕ = flatMap linkBytes (j .edges) in
     let q : bs ++ (3 ∷ take 4 rest) ≡ bytesOf (withEdges j (x ∷ [])) =
     rw (e, ← link-bytes rest b (f .whole), flatMap-more linkBytes (j .edges) x)
     (simp append-assoc) in
-    under-way n q
+    let tasked : j .tasks ≡ [] → j .edges ++ (x ∷ []) ≡ [] = λ t. absurd (omega (arith, ap length t, some-in (j .tasks) (f .placed))) in
+    under-way n tasked q
 grown end rest j bs h b f r = absurd (omega arith)
 
 -- the end record closes the file of the job so far
 closes : (j : Job) (bs : List ℕ) → Holds (stands j end) → ReadFrom j bs → bs ++ (4 ∷ []) ≡ fileOf j
 unfolding stands blank fileOf
 closes j bs s start = absurd s
-closes j bs s (under-way n e) = rw e (simp append-assoc)
+closes j bs s (under-way n u e) = rw e (simp append-assoc)
 
 -- the bytes read so far and those that are left are the file of the accepted job
 whole-file : {xs : List ℕ} {j : Job} {a : Answer} → Reads xs j a → (i : Job) → a ≡ accepted i → Bytes xs → (bs : List ℕ) → ReadFrom j bs →
@@ -138,5 +167,7 @@ written-back file j out b e h ht he =
 
 -- .. and has no more bytes than the greatest one
 pub file-bound : (file : List ℕ) (j : Job) → Bytes file → readJob file ≡ accepted j → length (j .tasks) ≤ 256 → length (j .edges) ≤ 1024 →
-    length file ≤ greatestLength
-file-bound file j b e ht he = omega (arith, file-size j, ap length (same-file file j b e))
+    j .platform .processors ≤ 16 → map ends (j .wires) ≡ wirePairs (j .platform) → length file ≤ greatestLength
+file-bound file j b e ht he few stand =
+    let wires : length (j .wires) ≤ 240 = rw (← length-map (j .wires) ends, stand) (few-pairs (j .platform) few) in
+    omega (arith, file-size j, ap length (same-file file j b e))

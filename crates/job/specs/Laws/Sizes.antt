@@ -1,10 +1,15 @@
 -- The lengths of the records in a file.
-use mathlib.Core.Path.{_≡_, ap}
+use mathlib.Core.Path.{_≡_, refl, ap}
 use Prim.Native.Nat.{ℕ, suc}
 use lib.ListN.{length}
 use Rattle.base.specs.Laws.Number.{length-bytes}
-use Rattle.job.specs.Job.{Edge}
-use Rattle.job.specs.Write.{stepBytes, linkBytes}
+use Rattle.job.specs.Job.{Edge, Wire}
+use Rattle.job.specs.Write.{wireBytes, stepBytes, linkBytes}
+
+-- a wire has four bytes
+pub wire-size : (w : Wire) → length (wireBytes w) ≡ 4
+unfolding wireBytes
+wire-size w = refl
 
 -- a step and a link have five bytes
 pub step-size : (d : ℕ) → length (stepBytes d) ≡ 5

@@ -12,11 +12,11 @@ use Rattle.job.specs.Limits.{mostProcessors, mostUnit, mostDuration, mos
 use Rattle.job.specs.Record.{platformInRange, durationInRange, countInRange, joins, rises}
 
 pub platform-facts : (p : Platform) → Holds (platformInRange p) →
-    (1 ≤ p .processors) × (p .processors ≤ mostProcessors) × (p .topology ≤ 2) × (p .unit ≤ mostUnit)
+    (1 ≤ p .processors) × (p .processors ≤ mostProcessors) × (p .topology ≤ 3) × (p .unit ≤ mostUnit)
 unfolding platformInRange
 platform-facts p h =
-    let a = parts (leb 1 (p .processors) && leb (p .processors) mostProcessors && leb (p .topology) 2) (leb (p .unit) mostUnit) h in
-    let b = parts (leb 1 (p .processors) && leb (p .processors) mostProcessors) (leb (p .topology) 2) (a .0) in
+    let a = parts (leb 1 (p .processors) && leb (p .processors) mostProcessors && leb (p .topology) 3) (leb (p .unit) mostUnit) h in
+    let b = parts (leb 1 (p .processors) && leb (p .processors) mostProcessors) (leb (p .topology) 3) (a .0) in
     let c = parts (leb 1 (p .processors)) (leb (p .processors) mostProcessors) (b .0) in
     (leb→le _ _ (c .0), leb→le _ _ (c .1), leb→le _ _ (b .1), leb→le _ _ (a .1))
 

@@ -23,9 +23,19 @@ returns-4 c = rw (c .match .keys4)
 
 returns-5 : tie.Need-returns-5
 unfolding misplacedNumber kindOf
-returns-5 c =
+returns-5 c = rw (c .match .keys5)
+
+returns-6 : tie.Need-returns-6
+unfolding misplacedNumber kindOf
+returns-6 c =
     let rest = c .match .rest in
-    simp (ne-eqb _ 1 (rest .0 .0 .0 .1), ne-eqb _ 2 (rest .0 .0 .1), ne-eqb _ 3 (rest .0 .1), ne-eqb _ 4 (rest .1))
+    simp (
+      ne-eqb _ 1 (rest .0 .0 .0 .0 .1),
+      ne-eqb _ 2 (rest .0 .0 .0 .1),
+      ne-eqb _ 3 (rest .0 .0 .1),
+      ne-eqb _ 4 (rest .0 .1),
+      ne-eqb _ 5 (rest .1),
+    )
 
 pub misplaced-spec : {M : Type 1} → statement M
-misplaced-spec = tie.close (tie.spec returns returns-2 returns-3 returns-4 returns-5)
+misplaced-spec = tie.close (tie.spec returns returns-2 returns-3 returns-4 returns-5 returns-6)

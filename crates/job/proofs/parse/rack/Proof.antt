@@ -11,13 +11,13 @@ use lib.ListN.{length, getD, drop}
 use lib.Seq.{getD-drop}
 use Rattle.job.specs.declared.Platform.{Platform}
 use Rattle.job.specs.Job.{blank, withRack}
-use Rattle.job.specs.Record.{Kind, rack, step, link, end, kindOf, bodyLength, noRack, stands, full, inRange, misfit, added}
+use Rattle.job.specs.Record.{Kind, rack, step, link, end, wire, kindOf, bodyLength, noRack, stands, full, inRange, misfit, added}
 use Rattle.job.specs.Record.{platformIn}
 use Rattle.job.specs.Read.{refused, refusedOr, records, readJob}
 use Rattle.job.specs.Pass.{misplacedNumber, platformTrouble, RackPassed}
 use Rattle.job.specs.Laws.Judged.{at-end, stops, short-at, whole-at}
 use Rattle.job.specs.Laws.Kinds.{kind-byte, misplaced-at, misplaced-some}
-use Rattle.job.specs.Laws.Due.{racked}
+use Rattle.job.specs.Laws.Due.{in-ranges}
 use Rattle.job.proofs.parse.rack.Statement.{statement}
 use Rattle.job.proofs.parse.rack.Tie as tie
 
@@ -27,7 +27,7 @@ refuse : (file : List ℕ) (n : ℕ) (p : Platform) (next : ℕ) → (n ≡ 0 �
 refuse file n p next z e = record {
   answer = e ∙ sym (stops n _ z);
   inside = λ h. absurd (z h);
-  some-processor = λ h. absurd (z h);
+  in-range = λ h. absurd (z h);
 }
 
 module _ (file : List ℕ) (p : Platform) where
@@ -41,6 +41,7 @@ module _ (file : List ℕ) (p : Platform) where
   first b z step e = tt
   first b z link e = tt
   first b z end e = tt
+  first b z wire e = tt
 
   module _ (h : 0 < length file) where
     other : (getD file 0 0 ≡ 1 → ⊥) → (n : ℕ) → n ≡ misplacedNumber (kindOf (getD file 0 0)) →
@@ -68,7 +69,7 @@ module _ (file : List ℕ) (h : 4 ≤ length file) (is : getD file 0 0 ≡ 1) wh
   judged = rw platform-is at (whole-at file 0 blank rack (omega arith) (rw is) tt tt (omega arith) h)
 
   found : (t : ℕ) → t ≡ platformTrouble there → RackPassed file (record { trouble = t; platform = there; next = 4 })
-  found t i = record { answer = rw i judged; inside = λ z. h; some-processor = λ z. racked there (sym i ∙ z) }
+  found t i = record { answer = rw i judged; inside = λ z. h; in-range = λ z. in-ranges there (sym i ∙ z) }
 
 returns : tie.Need-returns
 returns c = nothing _ _ (c .if1 .taken)

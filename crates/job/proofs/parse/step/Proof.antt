@@ -1,21 +1,28 @@
 -- `parse::step`: each return is the judgement of a step at this place, after any job that a step may follow.
-use mathlib.Core.Path.{_≡_}
+use mathlib.Core.Bool.{Bool, true, false, not}
+use mathlib.Core.Path.{_≡_, refl, _∙_}
 use mathlib.Core.List.{List, [], _∷_}
 use mathlib.Core.Option.{some}
-use Prim.Native.Nat.{ℕ, _+_, _-_, _≤_, _<_}
+use Prim.Native.Nat.{ℕ, suc, _+_, _-_, _≤_, _<_}
 use native.Mathlib.Numerals.{add-one}
 use native.Mathlib.Omega.{arith}
 use borrow.Author.Needs.{needs}
 use lib.ListN.{length, getD, take, drop}
+use Rattle.base.specs.Choice.{pick}
 use Rattle.base.specs.Number.{number}
 use Rattle.job.specs.Job.{Job, withTasks}
-use Rattle.job.specs.Record.{step, kindOf, bodyLength, inRange, misfit, added, durationIn}
-use Rattle.job.specs.Read.{refusedOr, records}
+use Rattle.job.specs.Record.{step, kindOf, bodyLength, inRange, misfit, added, durationIn, durationInRange, tooEarly}
+use Rattle.job.specs.Read.{Answer, refusedOr, records}
 use Rattle.job.specs.Pass.{stepTrouble, StepDue, StepPassed}
 use Rattle.job.specs.Laws.Judged.{troubled, crowded-at, short-at, whole-at}
 use Rattle.job.specs.Laws.Due.{steps-full, steps-room}
 use Rattle.job.proofs.parse.step.Statement.{statement}
 use Rattle.job.proofs.parse.step.Tie as tie
+
+-- its range is judged before whether it comes too early
+in-turn : (b : Bool) (n : ℕ) (a : Answer) → refusedOr (pick (not b) 4 n) a ≡ refusedOr (pick (not b) 4 0) (refusedOr n a)
+in-turn true n a = refl
+in-turn false n a = refl
 
 module _ (file : List ℕ) (at m : ℕ) (h : at < length file) (is : kindOf (getD file at 0) ≡ some step) where
   crowd : m ≡ 256 → StepPassed file at m (record { trouble = 5; duration = 0; next = at })
@@ -37,9 +44,12 @@ module _ (file : List ℕ) (at m : ℕ) (h : at < length file) (is : kindOf (get
     }
 
     module _ (l : 5 ≤ length file - at) (t d : ℕ) (e : d ≡ number (take 4 (drop (at + 1) file))) (i : t ≡ stepTrouble d) where
-      judged : (j : Job) → StepDue j m → records (drop at file) 0 j ≡ refusedOr t (records (drop (at + 5) file) 0 (withTasks j (d ∷ [])))
+      judged : (j : Job) → StepDue j m →
+          records (drop at file) 0 j ≡ refusedOr t (refusedOr (tooEarly j) (records (drop (at + 5) file) 0 (withTasks j (d ∷ []))))
       unfolding bodyLength inRange misfit added durationIn stepTrouble
-      judged j s = rw (i, e, add-one at) (whole-at file at j step h is (s .placed) (steps-room s room) (omega arith) (omega arith))
+      judged j s =
+          rw (i, e, add-one at) (whole-at file at j step h is (s .placed) (steps-room s room) (omega arith) (omega arith)
+          ∙ in-turn (durationInRange (durationIn (drop (suc at) file))) (tooEarly j) _)
 
       found : StepPassed file at m (record { trouble = t; duration = d; next = at + 5 })
       found = record { answer = judged; ahead = λ z. omega arith; inside = λ z. omega arith; few = λ z. room }

@@ -12,7 +12,7 @@ use Rattle.base.specs.Laws.Tests.{when-true, when-false}
 use Rattle.base.specs.Laws.Values.{length-values}
 use Rattle.job.specs.declared.parse.FoundStep.{FoundStep}
 use Rattle.job.specs.Job.{Job, withTasks}
-use Rattle.job.specs.Record.{step, kindOf, stands}
+use Rattle.job.specs.Record.{step, kindOf, stands, tooEarly, pairsDue}
 use Rattle.job.specs.Read.{refused, records}
 use Rattle.job.specs.Pass.{misplacedNumber, StepDue, StepsDue, StepPassed, StepsPassed, Front}
 use Rattle.job.specs.Laws.Judged.{at-end, passes, stops}
@@ -48,6 +48,11 @@ module _ (file : List ℕ) (start : ℕ) (durations : List ℕ) (m at : ℕ) (g 
   due : (j : Job) → StepsDue file start j → StepDue (withTasks j (row durations m)) m
   due j s = next-step (s .due) (row durations m) m (omega (arith, length-values (λ t. getD durations t 0) 0 m))
 
+  -- steps change nothing of the wires
+  wired : (j : Job) → StepsDue file start j → tooEarly (withTasks j (row durations m)) ≡ 0
+  unfolding tooEarly pairsDue
+  wired j s = s .wired
+
   -- a step with trouble
   bad : (r : FoundStep) → StepPassed file at m r → (r .trouble ≡ 0 → ⊥) →
       StepsPassed file start durations (record { trouble = r .trouble; count = m; next = at })
@@ -64,7 +69,7 @@ module _ (file : List ℕ) (start : ℕ) (durations : List ℕ) (m at : ℕ) (g 
     front = front-set (g .front) (r .duration) (x .few z);
     first = λ e. let n : ⊥ = omega arith in absurd n;
     same = λ j s. g .same j s ∙ x .answer (withTasks j (row durations m)) (due j s) ∙ passes _ _ z
-        ∙ ap (records (drop (r .next) file) 0) (tasks-then j (row durations m) (r .duration ∷ [])
+        ∙ passes _ _ (wired j s) ∙ ap (records (drop (r .next) file) 0) (tasks-then j (row durations m) (r .duration ∷ [])
         ∙ ap (withTasks j) (sym (row-set durations m (r .duration) (omega (arith, x .few z, g .front .long)))));
   }
 
