@@ -1,15 +1,15 @@
 -- How great the numbers of an accepted job can be: each bound comes from the ones before it and from the limits of document 01.
 use mathlib.Core.Path.{_≡_, refl}
-use Prim.Native.Nat.{ℕ, _+_, _*_, _-_}
-use Rattle.job.specs.Limits.{mostUnit, mostDuration, mostCount, mostTasks}
+use Prim.Native.Nat.{ℕ, _+_, _*_, _-_, max}
+use Rattle.job.specs.Limits.{mostUnit, mostWireCost, mostDuration, mostCount, mostTasks}
 
 -- the hops of a way: a ring's are at most half of its processors, a hypercube's at most four
 abbrev pub mostHops : ℕ
 mostHops = 8
 
--- 01: "No cost passes 800"
+-- 01: "No cost passes 800"; a wire's does not either
 abbrev pub mostCost : ℕ
-mostCost = mostUnit * mostHops
+mostCost = max (mostUnit * mostHops) mostWireCost
 
 -- the messages of one edge
 abbrev pub mostMessageTime : ℕ

@@ -1,5 +1,6 @@
 -- The worked cases of document 01 ("Ticks worked out") in one table, held to the definitions by computing them; after them cases that its
--- words settle and its list does not have, and the small inputs of the refusal table that are the checker's. In the document's words.
+-- words settle and its list does not have, cases of document 02 §1, and the small inputs of the refusal table that are the checker's.
+-- In the documents' words.
 use mathlib.Core.Option.{Option, none, some, bind, orElse}
 use mathlib.Core.Path.{_≡_, refl, sym, _∙_}
 use mathlib.Core.List.{List, [], _∷_, _++_, map, flatMap, map-append}
@@ -7,7 +8,7 @@ use Prim.Native.Nat.{ℕ}
 use lib.ListN.{getD}
 use Rattle.base.specs.Lists.{upto, any, all, filter, greatest, keep, best}
 use Rattle.job.specs.declared.Platform.{Platform}
-use Rattle.job.specs.Job.{Edge, Job, blank, withRack, withTasks, withEdges}
+use Rattle.job.specs.Job.{Edge, Wire, wireCost, Job, blank, withRack, withWires, withTasks, withEdges}
 use Rattle.etf.specs.Instance.{Instance, duration, into, messageTime}
 use Rattle.etf.specs.Schedule.{Placement, placed, placementOf, finish, messageTimeTo, arrival, lastFinish, end, scheduleOf, byTask}
 use Rattle.etf.specs.Rule.{atMost, move, settle, nextMoment, free, finished, ready, pair, pairs, choice, complete, round, run}
@@ -49,7 +50,7 @@ unfolding printed instance upto any all filter greatest keep best duration into 
     placed placementOf messageTimeTo arrival lastFinish end scheduleOf byTask
     atMost move settle nextMoment free finished ready pair pairs choice complete round run planned roundsIn rounds
     running busy idle someIdle latestIdleTick lowestIdle later latestInto back walk lastTask cover greatestCost dearestTo dearest
-    firstAnswer misplaced overlap early check hypercubeHops difference ringHops hops cost square costsOf blank bind orElse flatMap
+    firstAnswer misplaced overlap early check hypercubeHops difference ringHops hops cost wireCost square costsOf blank bind orElse flatMap
 answer (planOf j) = printed (instance j)
 answer (planBy order j) = printed (by order (instance j))
 answer (hopsOf r p q) = (hops r p q ∷ []) ∷ []
@@ -68,12 +69,15 @@ rack n wiring c = record { processors = n; topology = wiring; unit = c }
 abbrev link : ℕ → ℕ → ℕ → Edge
 link a b k = record { from = a; to = b; count = k }
 
--- the job of a rack, its steps and links
-abbrev job : Platform → List ℕ → List Edge → Job
-job r steps links = withEdges (withTasks (withRack blank r) steps) links
+abbrev wire : ℕ → ℕ → ℕ → Wire
+wire p q c = record { from = p; to = q; cost = c }
+
+-- the job of a rack, its wires, steps and links
+abbrev job : Platform → List Wire → List ℕ → List Edge → Job
+job r wires steps links = withEdges (withTasks (withWires (withRack blank r) wires) steps) links
 
 abbrev plan : Platform → List ℕ → List Edge → List (List ℕ) → Case
-plan r steps links lines = record { question = planOf (job r steps links); lines = lines }
+plan r steps links lines = record { question = planOf (job r [] steps links); lines = lines }
 
 abbrev between : Platform → ℕ → ℕ → ℕ → Case
 between r p q h = record { question = hopsOf r p q; lines = (h ∷ []) ∷ [] }
@@ -81,7 +85,7 @@ between r p q h = record { question = hopsOf r p q; lines = (h ∷ []) ∷ [] }
 -- the checker's answer to a plan for a job on two boards, flat, c = 2
 abbrev checked : List ℕ → List Edge → List ℕ → List ℕ → ℕ → Case
 checked steps links boards starts number = record {
-  question = answerTo (job (rack 2 0 2) steps links) boards starts;
+  question = answerTo (job (rack 2 0 2) [] steps links) boards starts;
   lines = (number ∷ []) ∷ [];
 }
 
@@ -118,6 +122,41 @@ worked =
     ∷ between (rack 6 2 1) 0 3 3
     ∷ []
 
+-- document 02 §1: a job on two boards with a wire each way, wiring 3; c = 7 is unused
+abbrev wires-2 : ℕ → ℕ → List ℕ → List Edge → Job
+wires-2 there back steps links = job (rack 2 3 7) (wire 0 1 there ∷ wire 1 0 back ∷ []) steps links
+
+-- two steps of 5 with a link, on wires of 5 there and 1 back
+abbrev sent : List ℕ → List ℕ → ℕ → Case
+sent boards starts number = record {
+  question = answerTo (wires-2 5 1 (5 ∷ 5 ∷ []) (link 0 1 1 ∷ [])) boards starts;
+  lines = (number ∷ []) ∷ [];
+}
+
+-- the two ways between a pair differ
+pub unequal : List Case
+unequal =
+    -- A with counts of 1: step 2 goes to board 0 where the way there is cheap, and else to board 1
+    record {
+      question = planOf (wires-2 5 1 (4 ∷ 3 ∷ 2 ∷ []) (link 0 2 1 ∷ link 1 2 1 ∷ []));
+      lines = row 0 0 0 4 ∷ row 1 1 0 3 ∷ row 2 0 4 6 ∷ totals 6 5 5;
+    }
+    ∷ record {
+      question = planOf (wires-2 1 5 (4 ∷ 3 ∷ 2 ∷ []) (link 0 2 1 ∷ link 1 2 1 ∷ []));
+      lines = row 0 0 0 4 ∷ row 1 1 0 3 ∷ row 2 1 5 7 ∷ totals 7 5 5;
+    }
+    -- the walk's messages go from the predecessor's board to the idle one
+    ∷ record {
+      question = planOf (wires-2 2 1 (3 ∷ 2 ∷ 2 ∷ []) (link 0 1 1 ∷ link 0 2 1 ∷ []));
+      lines = row 0 0 0 3 ∷ row 1 0 3 5 ∷ row 2 1 5 7 ∷ totals 7 2 2;
+    }
+    -- 13 by the way that the messages go
+    ∷ sent (0 ∷ 1 ∷ []) (0 ∷ 9 ∷ []) 13
+    ∷ sent (0 ∷ 1 ∷ []) (0 ∷ 10 ∷ []) 0
+    ∷ sent (1 ∷ 0 ∷ []) (0 ∷ 5 ∷ []) 13
+    ∷ sent (1 ∷ 0 ∷ []) (0 ∷ 6 ∷ []) 0
+    ∷ []
+
 -- what its words settle beside them
 pub further : List Case
 further =
@@ -135,14 +174,14 @@ further =
     ∷ plan (rack 2 0 0) (5 ∷ 1 ∷ []) [] (row 0 0 0 5 ∷ row 1 1 0 1 ∷ totals 5 0 0)
     -- D with the priority order 2, 1, 0: step 2 goes before step 1
     ∷ record {
-      question = planBy (2 ∷ 1 ∷ 0 ∷ []) (job (rack 2 0 1) (3 ∷ 2 ∷ 2 ∷ []) (link 0 1 1 ∷ link 0 2 1 ∷ []));
+      question = planBy (2 ∷ 1 ∷ 0 ∷ []) (job (rack 2 0 1) [] (3 ∷ 2 ∷ 2 ∷ []) (link 0 1 1 ∷ link 0 2 1 ∷ []));
       lines = row 0 0 0 3 ∷ row 1 1 4 6 ∷ row 2 0 3 5 ∷ totals 6 1 1;
     }
     -- one board: a link costs nothing, and the dearest chain is 0
     ∷ plan (rack 1 0 5) (1 ∷ 1 ∷ []) (link 0 1 3 ∷ []) (row 0 0 0 1 ∷ row 1 0 1 2 ∷ totals 2 0 0)
     -- a chain of 3 takes 5 rounds
     ∷ record {
-      question = roundsOf (job (rack 2 0 1) (2 ∷ 1 ∷ 3 ∷ []) (link 0 1 1 ∷ link 1 2 1 ∷ []));
+      question = roundsOf (job (rack 2 0 1) [] (2 ∷ 1 ∷ 3 ∷ []) (link 0 1 1 ∷ link 1 2 1 ∷ []));
       lines = (5 ∷ []) ∷ [];
     }
     ∷ []
@@ -170,7 +209,7 @@ checks =
 
 -- the table
 pub cases : List Case
-cases = worked ++ (further ++ checks)
+cases = worked ++ (further ++ (unequal ++ checks))
 
 -- the lines of each case of a table answer its question
 abbrev pub Right : List Case → Type 0
@@ -191,6 +230,10 @@ further-right : Right further
 unfolding further answer
 further-right = refl
 
+unequal-right : Right unequal
+unfolding unequal answer
+unequal-right = refl
+
 checks-right : Right checks
 unfolding checks answer
 checks-right = refl
@@ -198,4 +241,6 @@ checks-right = refl
 -- the table holds
 pub cases-hold : Right cases
 unfolding cases
-cases-hold = join worked (further ++ checks) worked-right (join further checks further-right checks-right)
+cases-hold =
+    join worked (further ++ (unequal ++ checks)) worked-right
+    (join further (unequal ++ checks) further-right (join unequal checks unequal-right checks-right))

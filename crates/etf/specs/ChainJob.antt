@@ -7,7 +7,8 @@ use native.Mathlib.Omega.{arith}
 use lib.ListN.{length, replicate, length-replicate, getD-replicate}
 use Rattle.base.specs.Lists.{upto}
 use Rattle.base.specs.Laws.Lists.{upto-in, map-in, map-upto-at, map-upto-length}
-use Rattle.job.specs.Job.{Edge, Job, blank, withRack, withTasks, withEdges}
+use Rattle.job.specs.Job.{Edge, wireCost, Job, blank, withRack, withTasks, withEdges}
+use Rattle.job.specs.Record.{wirePairs}
 use Rattle.job.specs.Accepted.{Accepted, duration, edgeAt}
 use Rattle.etf.specs.Instance.{TaskChain, tasks}
 use Rattle.etf.specs.Rule.{rounds}
@@ -42,12 +43,14 @@ module _ (n m : ℕ) where
 
   -- it is accepted within the ranges of document 01
   pub chain-accepted : 1 ≤ n → n ≤ 16 → 1 ≤ m → m ≤ 256 → Accepted (chainJob n m)
-  unfolding chainJob blank
+  unfolding chainJob blank wirePairs wireCost
   chain-accepted a b c d = record {
     some-processor = a;
     few-processors = b;
     known-topology = omega arith;
     small-unit = omega arith;
+    wires-stand = refl;
+    cheap-wires = λ p q. omega arith;
     some-task = omega (arith, long);
     few-tasks = omega (arith, long);
     long-enough = λ t h. omega (arith, tick t h);

@@ -2,19 +2,20 @@
 -- `Accepted` (crate job) is all that is known of the job.
 use mathlib.Core.Path.{_≡_}
 use mathlib.Core.Option.{none}
-use Prim.Native.Nat.{ℕ, _≤_, _<_}
+use Prim.Native.Nat.{ℕ, _*_, _≤_, _<_}
 use native.Mathlib.Omega.{arith}
+use borrow.Author.Tests.{eq-eqb, ne-eqb}
 use Rattle.base.specs.Lists.{_∈_}
 use Rattle.job.specs.Limits.{mostDuration}
-use Rattle.job.specs.Job.{Job}
+use Rattle.job.specs.Job.{wireCost, Job}
 use Rattle.job.specs.Accepted.{Accepted}
 use Rattle.etf.specs.Instance.{Instance, WellFormed, tasks}
 use Rattle.etf.specs.Schedule.{Placement, finish, arrival, end, byTask}
 use Rattle.etf.specs.Rule.{planned}
 use Rattle.etf.specs.Dearest.{dearest}
 use Rattle.etf.specs.Checker.{Keeps, check}
-use Rattle.etf.specs.Topology.{cost}
-use Rattle.etf.specs.OfJob.{instance}
+use Rattle.etf.specs.Topology.{hops, cost}
+use Rattle.etf.specs.OfJob.{costIn, instance}
 use Rattle.etf.specs.Bounds.{mostCost, mostMessageTime, mostFinish}
 use Rattle.etf.specs.Laws.Costs.{cost-most}
 use Rattle.etf.specs.Laws.Times.{finish-most, last-most, arrival-most}
@@ -26,6 +27,16 @@ use Rattle.etf.specs.Laws.OfJob.{of-job, few, short-tasks, near-processo
 pub none-with-one-processor : (j : Job) → j .platform .processors ≡ 1 → dearest (instance j) ≡ 0
 none-with-one-processor j e = dearest-free (instance j) (one-processor j e)
 
+-- 02 §1: a wire's cost between different processors under wiring 3, ..
+pub by-wires : (j : Job) (p q : ℕ) → j .platform .topology ≡ 3 → (p ≡ q → ⊥) → costIn j p q ≡ wireCost (j .wires) p q
+unfolding cost
+by-wires j p q e n = simp (ne-eqb p q n, eq-eqb (j .platform .topology) 3 e)
+
+-- .. and what document 01 has under the other wirings, as before
+pub by-hops : (j : Job) (p q : ℕ) → j .platform .topology ≤ 2 → (p ≡ q → ⊥) → costIn j p q ≡ j .platform .unit * hops (j .platform) p q
+unfolding cost
+by-hops j p q few n = simp (ne-eqb p q n, ne-eqb (j .platform .topology) 3 (λ e. omega arith))
+
 module _ (j : Job) (a : Accepted j) where
   -- what the planner plans
   abbrev I : Instance
@@ -36,11 +47,11 @@ module _ (j : Job) (a : Accepted j) where
   well-formed = of-job j a
 
   -- 01: "No cost passes 800"
-  pub no-cost-passes : (p q : ℕ) → cost (j .platform) p q ≤ mostCost
-  no-cost-passes p q = cost-most (j .platform) p q (a .few-processors) (a .small-unit)
+  pub no-cost-passes : (p q : ℕ) → costIn j p q ≤ mostCost
+  no-cost-passes p q = cost-most (j .platform) (wireCost (j .wires)) p q (a .few-processors) (a .small-unit) (a .cheap-wires p q)
 
   -- what a message takes is the cost: the square has it at p, q
-  pub cost-right : (p q : ℕ) → p < I .processors → q < I .processors → I .cost p q ≡ cost (j .platform) p q
+  pub cost-right : (p q : ℕ) → p < I .processors → q < I .processors → I .cost p q ≡ costIn j p q
   cost-right p q h k = laid-out j p q (a .few-processors) h k
 
   -- 01: "no planned time passes 460,000,000": no start and no finish

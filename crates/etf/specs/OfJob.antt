@@ -3,13 +3,17 @@ use mathlib.Core.List.{List}
 use Prim.Native.Nat.{ℕ}
 use lib.ListN.{length}
 use Rattle.base.specs.Lists.{upto}
-use Rattle.job.specs.Job.{Job}
+use Rattle.job.specs.Job.{wireCost, Job}
 use Rattle.etf.specs.Instance.{Instance}
 use Rattle.etf.specs.Topology.{cost, entry, square}
 
+-- what one message of a job takes from p to q
+abbrev pub costIn : Job → ℕ → ℕ → ℕ
+costIn j = cost (j .platform) (wireCost (j .wires))
+
 -- the link costs of a job (01: "Before planning, the costs are laid out as a square")
 unfoldable pub costsOf : Job → List (List ℕ)
-costsOf j = square (j .platform .processors) (cost (j .platform))
+costsOf j = square (j .platform .processors) (costIn j)
 
 -- a job's processors, tasks and edges, its link costs as laid out, and the tasks by number (01: "ties go to the lowest step number")
 unfoldable pub instance : Job → Instance

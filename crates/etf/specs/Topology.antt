@@ -32,9 +32,10 @@ hops r p q =
     (pick (eqb (r .topology) 2) (ringHops (r .processors) p q)
     0))
 
--- 01: "The cost from a board to itself is 0. Between boards p and q it is c times the hops."
-unfoldable pub cost : Platform → ℕ → ℕ → ℕ
-cost r p q = pick (eqb p q) 0 (r .unit * hops r p q)
+-- 01: "The cost from a board to itself is 0. Between boards p and q it is c times the hops."; 02 §1: under wiring 3 it is the wire's cost
+-- from p to q, and c is "read but unused"
+unfoldable pub cost : Platform → (ℕ → ℕ → ℕ) → ℕ → ℕ → ℕ
+cost r wire p q = pick (eqb p q) 0 (pick (eqb (r .topology) 3) (wire p q) (r .unit * hops r p q))
 
 -- what stands in a square of costs at row p and column q
 abbrev pub entry : List (List ℕ) → ℕ → ℕ → ℕ

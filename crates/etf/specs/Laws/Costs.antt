@@ -1,20 +1,21 @@
 -- How dear a message can be, as no way has more than eight hops, and what stands in the square of costs.
 -- A cube's way has at most four hops, a ring's at most half of sixteen; a row, as the square, is a map over 0, 1, .., read at its place.
-use mathlib.Core.Path.{_≡_, _∙_}
+use mathlib.Core.Path.{_≡_, refl, _∙_}
 use mathlib.Core.Logic.{_⊎_, inl, inr}
 use mathlib.Core.Bool.{Bool, true, false, not, _&&_}
 use mathlib.Core.List.{[], map}
 use Prim.Native.Nat.{ℕ, _*_, _≤_, _<_}
 use native.Mathlib.Omega.{arith}
 use native.Mathlib.Nat.{mul-le-mul}
+use borrow.Author.Tests.{ltb-true}
 use lib.Dec.{ltb, eqb, lt→ltb, eqb-refl}
 use lib.ListN.{length, getD, List·getD-eq-default}
 use Rattle.base.specs.Choice.{pick}
 use Rattle.base.specs.Lists.{upto}
 use Rattle.base.specs.Laws.Tests.{both, pick-yes, le-or-lt}
-use Rattle.base.specs.Laws.Lists.{length-filter-most, map-upto-at, map-upto-length}
+use Rattle.base.specs.Laws.Lists.{length-filter-most, map-same, map-upto-at, map-upto-length}
 use Rattle.job.specs.declared.Platform.{Platform}
-use Rattle.job.specs.Limits.{mostUnit}
+use Rattle.job.specs.Limits.{mostUnit, mostWireCost}
 use Rattle.etf.specs.Bounds.{mostHops, mostCost}
 use Rattle.etf.specs.Topology.{binaryPlace, hypercubeHops, ringHops, hops, cost, square}
 
@@ -42,14 +43,23 @@ hops-most r p q n =
     (pick-most (eqb (r .topology) 2) (ringHops (r .processors) p q) 0 8 (ring-most (r .processors) p q n) (omega arith)))
 
 -- no cost passes 800
-pub cost-most : (r : Platform) (p q : ℕ) → r .processors ≤ 16 → r .unit ≤ mostUnit → cost r p q ≤ mostCost
+pub cost-most : (r : Platform) (w : ℕ → ℕ → ℕ) (p q : ℕ) → r .processors ≤ 16 → r .unit ≤ mostUnit → w p q ≤ mostWireCost
+    → cost r w p q ≤ mostCost
 unfolding cost
-cost-most r p q n c = pick-most (eqb p q) 0 (r .unit * hops r p q) mostCost (omega arith) (mul-le-mul c (hops-most r p q n))
+cost-most r w p q n c cheap =
+    pick-most (eqb p q) 0 _ mostCost (omega arith)
+    (pick-most (eqb (r .topology) 3) (w p q) (r .unit * hops r p q) mostCost (omega (arith, cheap))
+    (omega (arith, mul-le-mul c (hops-most r p q n))))
 
 -- a processor reaches itself at cost 0
-pub cost-self : (r : Platform) (p : ℕ) → cost r p p ≡ 0
+pub cost-self : (r : Platform) (w : ℕ → ℕ → ℕ) (p : ℕ) → cost r w p p ≡ 0
 unfolding cost
-cost-self r p = pick-yes (eqb p p) 0 (r .unit * hops r p p) (eqb-refl p)
+cost-self r w p = pick-yes (eqb p p) 0 _ (eqb-refl p)
+
+-- the wire from p to q is all that counts of the wires
+pub cost-same : (r : Platform) (v w : ℕ → ℕ → ℕ) (p q : ℕ) → v p q ≡ w p q → cost r v p q ≡ cost r w p q
+unfolding cost
+cost-same r v w p q e = rw e
 
 -- ---- the square of costs
 
@@ -89,3 +99,13 @@ module _ (n : ℕ) (c : ℕ → ℕ → ℕ) where
   square-cost p q m h k =
       square-at p q (omega arith) (omega arith)
       ∙ pick-yes (ltb p n && ltb q n) (c p q) 0 (both (ltb p n) (ltb q n) (lt→ltb p n h) (lt→ltb q n k))
+
+-- a square is made of the costs between processors that are there
+pub square-same : (n : ℕ) (c d : ℕ → ℕ → ℕ) → ((p q : ℕ) → p < n → q < n → c p q ≡ d p q) → square n c ≡ square n d
+unfolding square
+square-same n c d h = map-same _ _ (upto 16) (λ p i. map-same _ _ (upto 16) (λ q k. under p q (ltb p n) (ltb q n) refl refl))
+  where
+    under : (p q : ℕ) (s t : Bool) → ltb p n ≡ s → ltb q n ≡ t → pick (s && t) (c p q) 0 ≡ pick (s && t) (d p q) 0
+    under p q true true e f = h p q (ltb-true p n e) (ltb-true q n f)
+    under p q true false e f = refl
+    under p q false t e f = refl

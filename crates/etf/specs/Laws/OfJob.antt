@@ -7,12 +7,12 @@ use lib.ListN.{length}
 use Rattle.base.specs.Lists.{_∈_, upto, greatest}
 use Rattle.base.specs.Laws.Lists.{upto-in, upto-of, place}
 use Rattle.job.specs.Limits.{mostDuration, mostCount}
-use Rattle.job.specs.Job.{Edge, Job}
+use Rattle.job.specs.Job.{Edge, wireCost, Job}
 use Rattle.job.specs.Accepted.{Accepted, edgeAt}
 use Rattle.etf.specs.Instance.{WellFormed, tasks, duration, messageTime}
-use Rattle.etf.specs.Topology.{cost, entry}
+use Rattle.etf.specs.Topology.{entry}
 use Rattle.etf.specs.Dearest.{greatestCost}
-use Rattle.etf.specs.OfJob.{costsOf, instance}
+use Rattle.etf.specs.OfJob.{costIn, costsOf, instance}
 use Rattle.etf.specs.Bounds.{mostCost, mostMessageTime}
 use Rattle.etf.specs.Laws.Costs.{cost-most, cost-self, square-most, square-cost}
 
@@ -41,16 +41,16 @@ short-tasks j a = a .short-enough
 
 -- what a message takes is the cost, as it is laid out
 pub laid-out : (j : Job) (p q : ℕ) → j .platform .processors ≤ 16 → p < instance j .processors → q < instance j .processors
-    → instance j .cost p q ≡ cost (j .platform) p q
+    → instance j .cost p q ≡ costIn j p q
 unfolding instance costsOf
-laid-out j p q few h k = square-cost (j .platform .processors) (cost (j .platform)) p q few h k
+laid-out j p q few h k = square-cost (j .platform .processors) (costIn j) p q few h k
 
 -- no entry of the costs passes the bound
 pub entry-most : (j : Job) → Accepted j → (p q : ℕ) → entry (costsOf j) p q ≤ mostCost
 unfolding costsOf
 entry-most j a =
-    square-most (j .platform .processors) (cost (j .platform)) mostCost
-    (λ p q. cost-most (j .platform) p q (a .few-processors) (a .small-unit))
+    square-most (j .platform .processors) (costIn j) mostCost
+    (λ p q. cost-most (j .platform) (wireCost (j .wires)) p q (a .few-processors) (a .small-unit) (a .cheap-wires p q))
 
 -- no edge's messages take longer than the bound
 pub near-processors : (j : Job) → Accepted j → (e : Edge) → e ∈ instance j .edges
@@ -67,5 +67,6 @@ pub one-processor : (j : Job) → j .platform .processors ≡ 1 → greatestCost
 unfolding instance greatestCost
 one-processor j e =
     let c : ℕ → ℕ → ℕ = instance j .cost in
-    let free : c 0 0 ≡ 0 = laid-out j 0 0 (omega (arith, e)) (omega (arith, e)) (omega (arith, e)) ∙ cost-self (j .platform) 0 in
+    let free : c 0 0 ≡ 0 =
+    laid-out j 0 0 (omega (arith, e)) (omega (arith, e)) (omega (arith, e)) ∙ cost-self (j .platform) (wireCost (j .wires)) 0 in
     ap (λ (n : ℕ). greatest (λ p. greatest (λ q. c p q) (upto n)) (upto n)) e ∙ alone c free
