@@ -13,6 +13,7 @@ use Rattle.job.specs.declared.Written.the-variants.{Length}
 use Rattle.job.specs.Job.{Edge, Job}
 use Rattle.job.specs.Read.{accepted, readJob, readingOf}
 use Rattle.job.specs.Write.{heldJob, Held, writeAnswer, writeOut}
+use Rattle.job.specs.Accepted.{accepted-job}
 use Rattle.job.specs.RoundTrip.{written-read, read-held, read-written}
 use Rattle.etf.specs.Instance.{tasks}
 use Rattle.etf.specs.Schedule.{placementOf, scheduleOf, end}
@@ -169,4 +170,4 @@ pub read-and-written : (file : List ℕ) (j : Job) (out : List ℕ) → Bytes fi
     (heldJob (readingOf (readJob file) .platform) (length (j .tasks)) (length (j .edges)) (readingOf (readJob file) .arrays) ≡ j)
     × (writeAnswer (length (j .tasks)) (length (j .edges)) j out ≡ Length (length file))
     × (writeOut (Length (length file)) j out ≡ file ++ drop (length file) out)
-read-and-written file j out b e h = let w = read-written file j out b e h in (rw e (read-held j), w .0, w .1)
+read-and-written file j out b e h = let w = read-written file j out b e h in (rw e (read-held j (accepted-job file j e)), w .0, w .1)

@@ -180,8 +180,12 @@ pub record Placed (pair : Pair) (finish first last low m n : ℕ) (order : ℕ �
 -- a platform of which a cost can be told: it has a topology, and no cost passes 32 bits
 pub record Wired (platform : Platform) : Type 0 where
   pub few-processors : platform .processors ≤ 16
-  pub known-topology : platform .topology ≤ 2
+  pub known-topology : platform .topology ≤ 3
   pub small-unit : platform .unit ≤ mostUnit
+
+-- the cost of the wire from p to q in an array of sixteen rows of sixteen
+unfoldable pub loaded : List ℕ → ℕ → ℕ → ℕ
+loaded wires p q = getD wires (16 * p + q) 0
 
 -- ---- the slices
 

@@ -1,10 +1,10 @@
-// Link costs (document 01, "Link costs").
+// Link costs (document 01, "Link costs"; document 02, §1).
 use crate::hypercube;
 use job::Platform;
 ghost use mathlib.Core.Path.{_≡_};
 ghost use Prim.Native.Nat.{_≤_, _<_};
 ghost use Rattle.etf.specs.Topology.{ringHops, hops as hopsOf, cost as costOf, square as squareOf};
-ghost use Rattle.schedule.specs.Pass.{Wired};
+ghost use Rattle.schedule.specs.Pass.{Wired, loaded};
 
 // 01: "the smaller of the difference d of p and q, and n - d".
 fn ring_hops(n: usize, p: usize, q: usize) -> u32
@@ -20,7 +20,7 @@ fn ring_hops(n: usize, p: usize, q: usize) -> u32
 
 // The hops between two different processors, by topology: 0 complete, 1 hypercube, 2 ring.
 fn hops(platform: Platform, p: usize, q: usize) -> u32
-    requires { ⌜ Wired platform × (p < platform .processors) × (q < platform .processors) ⌝ }
+    requires { ⌜ Wired platform × (p < platform .processors) × (q < platform .processors) × (platform .topology ≤ 2) ⌝ }
     ensures { λ r. ⌜ r ≡ hopsOf platform p q ⌝ }
 {
     let topology = platform.topology;
@@ -33,21 +33,24 @@ fn hops(platform: Platform, p: usize, q: usize) -> u32
     ring_hops(base::index(platform.processors), p, q)
 }
 
-// What one message takes from processor p to processor q.
-fn cost(platform: Platform, p: usize, q: usize) -> u32
+// What one message takes from processor p to processor q: under topology 3 what the wire from p to q has.
+fn cost(platform: Platform, wires: &[u8; 256], p: usize, q: usize) -> u32
     requires { ⌜ Wired platform × (p < platform .processors) × (q < platform .processors) ⌝ }
-    ensures { λ r. ⌜ r ≡ costOf platform p q ⌝ }
+    ensures { λ r. ⌜ r ≡ costOf platform (loaded (now (wires .entry))) p q ⌝ }
 {
     if p == q {
         return 0;
+    }
+    if 2 < platform.topology {
+        return base::wide8(wires[16 * p + q]);
     }
     base::wide8(platform.unit) * hops(platform, p, q)
 }
 
 // The costs as a square of sixteen rows of sixteen, 0 where a processor is absent.
-pub fn square(platform: Platform) -> [[u32; 16]; 16]
+pub fn square(platform: Platform, wires: &[u8; 256]) -> [[u32; 16]; 16]
     requires { ⌜ Wired platform ⌝ }
-    ensures { λ r. ⌜ r ≡ squareOf (platform .processors) (costOf platform) ⌝ }
+    ensures { λ r. ⌜ r ≡ squareOf (platform .processors) (costOf platform (loaded (now (wires .entry)))) ⌝ }
 {
     let n = base::index(platform.processors);
     let mut costs = [[0u32; 16]; 16];
@@ -55,7 +58,7 @@ pub fn square(platform: Platform) -> [[u32; 16]; 16]
     while p < n {
         let mut q: usize = 0;
         while q < n {
-            let x = cost(platform, p, q);
+            let x = cost(platform, wires, p, q);
             costs[p][q] = x;
             q += 1;
         }

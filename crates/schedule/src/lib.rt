@@ -129,7 +129,7 @@ pub fn plan(file: &[u8], starts: &mut [u32], processors: &mut [u8], scratch: &mu
         return Planned::Refused(job::number(verdict));
     };
     let n = base::index(r.platform.processors);
-    let costs = costs::square(r.platform);
+    let costs = costs::square(r.platform, &r.arrays.wires);
     let laid = lay_out(
         n,
         tasks,
@@ -195,7 +195,7 @@ pub fn cover(file: &[u8], starts: &mut [u32], processors: &mut [u8], scratch: &m
         return Covered::Refused(job::number(verdict));
     };
     let n = base::index(r.platform.processors);
-    let costs = costs::square(r.platform);
+    let costs = costs::square(r.platform, &r.arrays.wires);
     let laid = lay_out(
         n,
         tasks,
@@ -242,7 +242,7 @@ pub fn check(file: &[u8], starts: &[u32], processors: &[u8]) -> Checked
         return Checked::Refused(9);
     }
     let n = base::index(r.platform.processors);
-    let costs = costs::square(r.platform);
+    let costs = costs::square(r.platform, &r.arrays.wires);
     let trouble = checker::trouble(
         n,
         tasks,

@@ -11,8 +11,11 @@ use Rattle.schedule.proofs.check.Tie as tie
 abbrev verdict-of : tie.Else1 → tie.After-verdict
 verdict-of a = a .before .before
 
+abbrev index-of : tie.After-square → tie.After-index
+index-of s = s .before .before .before .before
+
 abbrev room-of : tie.After-square → tie.Else2
-room-of s = s .before .before .before
+room-of s = index-of s .before
 
 abbrev square-of : tie.After-trouble → tie.After-square
 square-of t = t .before .before .before .before .before .before .before .before .before .before
@@ -47,7 +50,7 @@ index-requires c κs = search needs
 
 square-requires : tie.Need-square-requires
 square-requires c κs =
-    let v = verdict-of (c .before .before .before) in
+    let v = verdict-of (c .before .before .before .before .before) in
     wired (read-as (v .before .before .read .ensures) (v .verdict .given .1))
 
 trouble-requires : tie.Need-trouble-requires
@@ -56,7 +59,7 @@ trouble-requires c κs =
     let room = room-of s in
     let v = verdict-of (room .before) in
     let read = read-as (v .before .before .read .ensures) (v .verdict .given .1) in
-    (plannable read (s .before .before .index .ensures .0) (s .square .ensures), (room .before .if1 .left, room .if2 .left))
+    (plannable read (index-of s .index .ensures .0) (s .square .ensures), (room .before .if1 .left, room .if2 .left))
 
 returns-4 : tie.Need-returns-4
 returns-4 c =
@@ -65,7 +68,7 @@ returns-4 c =
     let room = room-of s in
     let v = verdict-of (room .before) in
     let read = read-as (v .before .before .read .ensures) (v .verdict .given .1) in
-    let same = instance-held read (s .before .before .index .ensures .0) (s .square .ensures) in
+    let same = instance-held read (index-of s .index .ensures .0) (s .square .ensures) in
     check-trouble read same _ _ (room .before .if1 .left) (room .if2 .left) (t .trouble .ensures) (λ z. omega (arith, z, c .if3 .taken))
 
 returns-5 : tie.Need-returns-5
@@ -75,7 +78,7 @@ returns-5 c =
     let room = room-of s in
     let v = verdict-of (room .before) in
     let read = read-as (v .before .before .read .ensures) (v .verdict .given .1) in
-    let same = instance-held read (s .before .before .index .ensures .0) (s .square .ensures) in
+    let same = instance-held read (index-of s .index .ensures .0) (s .square .ensures) in
     check-yes read same _ _ (room .before .if1 .left) (room .if2 .left) (t .trouble .ensures) (omega (arith, c .if3 .left))
 
 pub check-spec : {M : Type 1} → statement M

@@ -16,8 +16,11 @@ answer I = Cover (figures I)
 
 -- ---- the places
 
+abbrev index-of : tie.After-square → tie.After-index
+index-of s = s .before .before .before .before
+
 abbrev verdict-of : tie.After-square → tie.After-verdict
-verdict-of s = s .before .before .before .before
+verdict-of s = index-of s .before .before
 
 abbrev square-of : tie.After-lay-out → tie.After-square
 square-of l = l .before .before .before .before .before .before .before .before .before .before .before .before .before
@@ -51,7 +54,7 @@ index-requires c κs = search needs
 
 square-requires : tie.Need-square-requires
 square-requires c κs =
-    let v = c .before .before .before in
+    let v = c .before .before .before .before .before in
     wired (read-as (v .before .before .read .ensures) (v .verdict .given .1))
 
 lay-out-requires : tie.Need-lay-out-requires
@@ -59,7 +62,7 @@ lay-out-requires c κs =
     let s = c .before .before .before .before .before .before .before .before .before .before .before .before in
     let v = verdict-of s in
     let read = read-as (v .before .before .read .ensures) (v .verdict .given .1) in
-    plannable read (s .before .before .index .ensures .0) (s .square .ensures)
+    plannable read (index-of s .index .ensures .0) (s .square .ensures)
 
 enum-told-2 : tie.Need-enum-told-2
 enum-told-2 c = search needs
@@ -83,7 +86,7 @@ returns-2 c =
     let s = square-of l in
     let v = verdict-of s in
     let read = read-as (v .before .before .read .ensures) (v .verdict .given .1) in
-    let same = instance-held read (s .before .before .index .ensures .0) (s .square .ensures) in
+    let same = instance-held read (index-of s .index .ensures .0) (s .square .ensures) in
     call-short read same Refused answer _ _ _ (c .enum-told3 .given .1) (l .lay-out .ensures)
 
 measure-requires : tie.Need-measure-requires
@@ -93,7 +96,7 @@ measure-requires c κs =
     let s = square-of l in
     let v = verdict-of s in
     let read = read-as (v .before .before .read .ensures) (v .verdict .given .1) in
-    let given = plannable read (s .before .before .index .ensures .0) (s .square .ensures) in
+    let given = plannable read (index-of s .index .ensures .0) (s .square .ensures) in
     (given, laid-holds given _ _ _ (e .enum-told2 .given .1) (l .lay-out .ensures))
 
 same-length-4 : tie.Need-same-length-4
@@ -113,7 +116,7 @@ returns-3 c =
     let s = square-of l in
     let v = verdict-of s in
     let read = read-as (v .before .before .read .ensures) (v .verdict .given .1) in
-    let same = instance-held read (s .before .before .index .ensures .0) (s .square .ensures) in
+    let same = instance-held read (index-of s .index .ensures .0) (s .square .ensures) in
     call-end read same Refused answer _ _ _ (e .enum-told2 .given .1) (l .lay-out .ensures)
     (λ e-is. measured-right same (c .measure .ensures))
 

@@ -16,8 +16,11 @@ answer I = Plan (outcome I)
 
 -- ---- the places
 
+abbrev index-of : tie.After-square → tie.After-index
+index-of s = s .before .before .before .before
+
 abbrev verdict-of : tie.After-square → tie.After-verdict
-verdict-of s = s .before .before .before .before
+verdict-of s = index-of s .before .before
 
 abbrev square-of : tie.After-lay-out → tie.After-square
 square-of l = l .before .before .before .before .before .before .before .before .before .before .before .before .before
@@ -45,7 +48,7 @@ index-requires c κs = search needs
 
 square-requires : tie.Need-square-requires
 square-requires c κs =
-    let v = c .before .before .before in
+    let v = c .before .before .before .before .before in
     wired (read-as (v .before .before .read .ensures) (v .verdict .given .1))
 
 lay-out-requires : tie.Need-lay-out-requires
@@ -53,7 +56,7 @@ lay-out-requires c κs =
     let s = c .before .before .before .before .before .before .before .before .before .before .before .before in
     let v = verdict-of s in
     let read = read-as (v .before .before .read .ensures) (v .verdict .given .1) in
-    plannable read (s .before .before .index .ensures .0) (s .square .ensures)
+    plannable read (index-of s .index .ensures .0) (s .square .ensures)
 
 enum-known-laid : tie.Need-enum-known-laid
 enum-known-laid c = search needs
@@ -77,7 +80,7 @@ returns-2 c =
     let s = square-of l in
     let v = verdict-of s in
     let read = read-as (v .before .before .read .ensures) (v .verdict .given .1) in
-    let same = instance-held read (s .before .before .index .ensures .0) (s .square .ensures) in
+    let same = instance-held read (index-of s .index .ensures .0) (s .square .ensures) in
     call-short read same Refused answer _ _ _ (c .enum-told2 .given .1) (l .lay-out .ensures)
 
 same-length-4 : tie.Need-same-length-4
@@ -97,7 +100,7 @@ returns-3 c =
     let s = square-of l in
     let v = verdict-of s in
     let read = read-as (v .before .before .read .ensures) (v .verdict .given .1) in
-    let same = instance-held read (s .before .before .index .ensures .0) (s .square .ensures) in
+    let same = instance-held read (index-of s .index .ensures .0) (s .square .ensures) in
     call-end read same Refused answer _ _ _ (at-laid .laid .given .1) (l .lay-out .ensures) (planned-right read)
 
 pub plan-spec : {M : Type 1} → statement M

@@ -1,7 +1,7 @@
 -- What an entry learns from the reader's contract: a verdict with counts comes with an accepted job, and the arrays hold its instance.
 use mathlib.Core.Path.{_≡_, refl, ap, sym, subst, _∙_}
 use mathlib.Core.List.{List}
-use Prim.Native.Nat.{ℕ, suc, _≤_, _<_}
+use Prim.Native.Nat.{ℕ, suc, _+_, _*_, _≤_, _<_}
 use native.Mathlib.Nat.{mul-le-mul}
 use native.Mathlib.Omega.{arith}
 use lib.ListN.{length, getD}
@@ -10,19 +10,19 @@ use Rattle.base.specs.Laws.Values.{length-values, value-at, upto-values}
 use Rattle.job.specs.declared.Verdict.the-variants.{Counts}
 use Rattle.job.specs.declared.Reading.{Reading}
 use Rattle.job.specs.Limits.{mostDuration, mostCount}
-use Rattle.job.specs.Job.{Edge, Job}
+use Rattle.job.specs.Job.{Edge, wireCost, Job}
 use Rattle.job.specs.Read.{accepted, readJob, readingOf}
 use Rattle.job.specs.Write.{edgeHeld, heldJob}
-use Rattle.job.specs.Accepted.{Accepted, Before, edgeAt, accepted-job, counted, laid-out}
+use Rattle.job.specs.Accepted.{Accepted, LaidOut, Before, edgeAt, accepted-job, counted, laid-out}
 use Rattle.job.specs.RoundTrip.{read-held}
 use Rattle.etf.specs.Instance.{Instance}
 use Rattle.etf.specs.Topology.{cost, square, entry}
-use Rattle.etf.specs.OfJob.{costsOf, instance}
+use Rattle.etf.specs.OfJob.{costIn, costsOf, instance}
 use Rattle.etf.specs.Bounds.{mostCost}
-use Rattle.etf.specs.Laws.Costs.{row-length}
+use Rattle.etf.specs.Laws.Costs.{square-same, cost-same, row-length}
 use Rattle.etf.specs.Laws.OfJob.{entry-most}
 use Rattle.schedule.specs.InArrays.{InArrays, byNumber, instanceIn, Ordering, Plannable}
-use Rattle.schedule.specs.Pass.{Wired}
+use Rattle.schedule.specs.Pass.{Wired, loaded}
 
 -- an accepted file: the job, held in the arrays of its reading x
 pub record Read (file : List ℕ) (x : Reading) (m l : ℕ) : Type 0 where
@@ -35,10 +35,17 @@ pub record Read (file : List ℕ) (x : Reading) (m l : ℕ) : Type 0 where
   pub from-size : length (x .arrays .from) ≡ 1024
   pub to-size : length (x .arrays .to) ≡ 1024
   pub counts-size : length (x .arrays .counts) ≡ 1024
+  pub wires-are : (p q : ℕ) → p < 16 → q < 16 → loaded (x .arrays .wires) p q ≡ wireCost (job .wires) p q
 
-held-as : (j : Job) (m l : ℕ) → length (j .tasks) ≡ m → length (j .edges) ≡ l
+held-as : (j : Job) (m l : ℕ) → Accepted j → length (j .tasks) ≡ m → length (j .edges) ≡ l
     → heldJob (readingOf (accepted j) .platform) m l (readingOf (accepted j) .arrays) ≡ j
-held-as j m l a b = rw (← a, ← b) (read-held j)
+held-as j m l s a b = rw (← a, ← b) (read-held j s)
+
+-- the array has the job's wires
+wires-as : (j : Job) → LaidOut (readingOf (accepted j) .arrays) j → (x : Reading) → x ≡ readingOf (accepted j)
+    → (p q : ℕ) → p < 16 → q < 16 → loaded (x .arrays .wires) p q ≡ wireCost (j .wires) p q
+unfolding loaded
+wires-as j s x r p q h k = ap (λ (y : Reading). getD (y .arrays .wires) (16 * p + q) 0) r ∙ s .wire-at p q h k
 
 pub read-as : {file : List ℕ} {x : Reading} {m l : ℕ} → x ≡ readingOf (readJob file) → x .verdict ≡ Counts m l → Read file x m l
 read-as {file} {x} {m} {l} e v =
@@ -52,11 +59,12 @@ read-as {file} {x} {m} {l} e v =
       says = c .1;
       sound = a;
       tasks-are = c .2;
-      held = ap (λ (y : Reading). heldJob (y .platform) m l (y .arrays)) r ∙ held-as j m l (c .2) (c .3);
+      held = ap (λ (y : Reading). heldJob (y .platform) m l (y .arrays)) r ∙ held-as j m l a (c .2) (c .3);
       durations-size = ap (λ (y : Reading). length (y .arrays .durations)) r ∙ s .durations-length;
       from-size = ap (λ (y : Reading). length (y .arrays .from)) r ∙ s .from-length;
       to-size = ap (λ (y : Reading). length (y .arrays .to)) r ∙ s .to-length;
       counts-size = ap (λ (y : Reading). length (y .arrays .counts)) r ∙ s .counts-length;
+      wires-are = wires-as j s x r;
     }
 
 -- the tasks by number are an order of them
@@ -106,14 +114,25 @@ module _ {file : List ℕ} {x : Reading} {m l : ℕ} (K : Read file x m l) where
   each-edge P f k h = subst P (edge-is k h) (f k (omega (arith, edges-held)))
 
   module _ {n : ℕ} (n-is : n ≡ x .platform .processors)
-      {costs : List (List ℕ)} (costs-are : costs ≡ square (x .platform .processors) (cost (x .platform))) where
+      {costs : List (List ℕ)}
+      (costs-are : costs ≡ square (x .platform .processors) (cost (x .platform) (loaded (x .arrays .wires)))) where
     abbrev A : InArrays
     A = byNumber n m l (x .arrays .durations) (x .arrays .from) (x .arrays .to) (x .arrays .counts) costs
 
+    -- the square is the job's, as the array has its wires
+    costs-of : costs ≡ costsOf J
+    unfolding costsOf heldJob
+    costs-of =
+        costs-are
+        ∙ square-same (x .platform .processors) (cost (x .platform) (loaded (x .arrays .wires))) (costIn J)
+        (λ p q h k. cost-same (x .platform) (loaded (x .arrays .wires)) (wireCost (J .wires)) p q
+        (K .wires-are p q (omega (arith, held-sound .few-processors)) (omega (arith, held-sound .few-processors))
+        ∙ ap (λ (j : Job). wireCost (j .wires) p q) (sym (K .held))))
+
     -- the arrays hold the instance of the job
     pub instance-held : instanceIn A ≡ instance (K .job)
-    unfolding instanceIn instance costsOf heldJob
-    instance-held = rw (n-is, costs-are) (ap with-order in-order) ∙ ap instance (K .held)
+    unfolding instanceIn instance heldJob
+    instance-held = rw (n-is, costs-of) (ap with-order in-order) ∙ ap instance (K .held)
       where
         in-order : values (λ i. i) 0 m ≡ upto (length (J .tasks))
         in-order = sym (upto-values m) ∙ ap upto (sym tasks-held)
@@ -126,10 +145,6 @@ module _ {file : List ℕ} {x : Reading} {m l : ℕ} (K : Read file x m l) where
           cost = entry (costsOf J);
           order = order;
         }
-
-    costs-of : costs ≡ costsOf J
-    unfolding costsOf heldJob
-    costs-of = costs-are
 
     -- and all that is asked of them
     pub plannable : Plannable A
@@ -155,5 +170,5 @@ module _ {file : List ℕ} {x : Reading} {m l : ℕ} (K : Read file x m l) where
       from-size = K .from-size;
       to-size = K .to-size;
       counts-size = K .counts-size;
-      row-size = λ p h. rw costs-are (row-length (x .platform .processors) (cost (x .platform)) p h);
+      row-size = λ p h. rw costs-are (row-length (x .platform .processors) (cost (x .platform) (loaded (x .arrays .wires))) p h);
     }

@@ -1,34 +1,66 @@
--- `costs::cost`: the unit cost times the hops; no cost passes 32 bits.
+-- `costs::cost`: the wire's cost under topology 3, else the unit cost times the hops; no cost passes 32 bits.
 use mathlib.Core.Path.{_≡_}
-use Prim.Native.Nat.{ℕ, _*_, _≤_}
+use mathlib.Core.List.{List}
+use Prim.Native.Nat.{ℕ, _+_, _*_, _≤_, _<_}
+use native.Mathlib.Nat.{mul-le-mul}
+use native.Mathlib.Omega.{arith}
 use borrow.Author.Needs.{needs}
 use borrow.Author.Tests.{eq-eqb, ne-eqb}
+use lib.ListN.{getD}
 use Rattle.job.specs.declared.Platform.{Platform}
 use Rattle.etf.specs.Topology.{hops, cost}
 use Rattle.etf.specs.Bounds.{mostCost}
-use Rattle.etf.specs.Laws.Costs.{cost-most}
-use Rattle.schedule.specs.Pass.{Wired}
+use Rattle.etf.specs.Laws.Costs.{hops-most}
+use Rattle.schedule.specs.Pass.{Wired, loaded}
 use Rattle.schedule.proofs.costs.cost.Statement.{statement}
 use Rattle.schedule.proofs.costs.cost.Tie as tie
 
-module _ (r : Platform) (p q : ℕ) where
-  itself : p ≡ q → 0 ≡ cost r p q
+module _ (r : Platform) (wires : List ℕ) (p q : ℕ) where
+  itself : p ≡ q → 0 ≡ cost r (loaded wires) p q
   unfolding cost
   itself e = simp (eq-eqb _ _ e)
 
-  module _ (u h : ℕ) (a : p ≡ q → ⊥) (eu : u ≡ r .unit) (eh : h ≡ hops r p q) where
-    between : u * h ≡ cost r p q
-    unfolding cost
-    between = simp (ne-eqb _ _ a, eu, eh)
+  module _ (a : p ≡ q → ⊥) where
+    -- the entry at the place of the pair
+    by-wire : 2 < r .topology → r .topology ≤ 3 → (x k : ℕ) → x ≡ getD wires k 0 → k ≡ 16 * p + q → x ≡ cost r (loaded wires) p q
+    unfolding cost loaded
+    by-wire h h′ x k e i =
+        let t : r .topology ≡ 3 = omega arith in
+        simp (ne-eqb _ _ a, eq-eqb _ _ t) (rw i at e)
 
-    small : Wired r → u * h ≤ mostCost
-    small w = rw between (cost-most r p q (w .few-processors) (w .small-unit))
+    module _ (u h : ℕ) (eu : u ≡ r .unit) (eh : h ≡ hops r p q) where
+      by-hops : r .topology ≤ 2 → u * h ≡ cost r (loaded wires) p q
+      unfolding cost
+      by-hops t = simp (ne-eqb _ _ a, ne-eqb (r .topology) 3 (λ e. omega arith), eu, eh)
+
+small : (r : Platform) (p q u h : ℕ) → u ≡ r .unit → h ≡ hops r p q → Wired r → u * h ≤ mostCost
+small r p q u h eu eh w = rw (eu, eh) (omega (arith, mul-le-mul (w .small-unit) (hops-most r p q (w .few-processors))))
 
 returns : tie.Need-returns
-returns c = itself _ _ _ (c .if1 .taken)
+returns c = itself _ _ _ _ (c .if1 .taken)
+
+mul-wide8 : tie.Need-mul-wide8
+mul-wide8 c = search needs
+
+add-wide8 : tie.Need-add-wide8
+add-wide8 c = search needs
+
+element-copy-out-wide8 : tie.Need-element-copy-out-wide8
+element-copy-out-wide8 c = search needs
 
 wide8-requires : tie.Need-wide8-requires
 wide8-requires c κs = search needs
+
+returns-2 : tie.Need-returns-2
+returns-2 c =
+    let at-if2 = c .before .before in
+    let at-if1 = at-if2 .before .before in
+    let at-start = at-if1 .before in
+    by-wire _ _ _ _ (at-if1 .if1 .left) (omega (arith, at-if2 .if2 .taken)) (at-start .pre .0 .known-topology) _ _ (c .wide8 .ensures .0)
+    (omega arith)
+
+wide8-requires-2 : tie.Need-wide8-requires-2
+wide8-requires-2 c κs = search needs
 
 hops-requires : tie.Need-hops-requires
 hops-requires c κs = search needs
@@ -36,11 +68,27 @@ hops-requires c κs = search needs
 mul-result : tie.Need-mul-result
 mul-result c =
     let at-wide8 = c .before in
-    let at-if1 = at-wide8 .before in
-    search (needs, small _ _ _ _ _ (at-if1 .if1 .left) (at-wide8 .wide8 .ensures .0) (c .hops .ensures) (at-if1 .before .pre .0))
+    let at-if1 = at-wide8 .before .before .before in
+    search (needs, small _ _ _ _ _ (at-wide8 .wide82 .ensures .0) (c .hops .ensures) (at-if1 .before .pre .0))
 
-returns-2 : tie.Need-returns-2
-returns-2 c = between _ _ _ _ _ (c .before .before .if1 .left) (c .before .wide8 .ensures .0) (c .hops .ensures)
+returns-3 : tie.Need-returns-3
+returns-3 c =
+    let at-wide8 = c .before in
+    let at-if2 = at-wide8 .before in
+    let at-if1 = at-if2 .before .before in
+    by-hops _ _ _ _ (at-if1 .if1 .left) _ _ (at-wide8 .wide82 .ensures .0) (c .hops .ensures) (omega (arith, at-if2 .if2 .left))
 
 pub cost-spec : {M : Type 1} → statement M
-cost-spec = tie.close (tie.spec returns wide8-requires hops-requires mul-result returns-2)
+cost-spec =
+    tie.close
+    (tie.spec
+    returns
+    mul-wide8
+    add-wide8
+    element-copy-out-wide8
+    wide8-requires
+    returns-2
+    wide8-requires-2
+    hops-requires
+    mul-result
+    returns-3)

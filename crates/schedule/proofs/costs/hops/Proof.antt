@@ -56,7 +56,7 @@ returns-3 c =
     let at-start = at-if1 .before in
     let args = at-start .args in
     c .ring-hops .ensures ∙ ap (λ n. ringHops n (args .p) (args .q)) (at-index .index .ensures .0)
-    ∙ ring _ _ _ (at-if1 .if1 .left) (at-if2 .if2 .left) (at-start .pre .0 .known-topology)
+    ∙ ring _ _ _ (at-if1 .if1 .left) (at-if2 .if2 .left) (at-start .pre .3)
 
 pub hops-spec : {M : Type 1} → statement M
 hops-spec =

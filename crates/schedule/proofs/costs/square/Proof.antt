@@ -12,6 +12,7 @@ use lib.Seq.{getD-set-same, getD-set-other, ext-getD}
 use Rattle.base.specs.Laws.Tests.{lt-or-ge}
 use Rattle.etf.specs.Topology.{entry, square, cost}
 use Rattle.etf.specs.Laws.Costs.{square-length, row-length, square-at, square-cost}
+use Rattle.schedule.specs.Pass.{loaded}
 use Rattle.schedule.proofs.costs.square.Statement.{statement}
 use Rattle.schedule.proofs.costs.square.Tie as tie
 
@@ -119,16 +120,17 @@ module _ (n : ℕ) (c : ℕ → ℕ → ℕ) where
 -- ---- the loops
 
 abbrev Inv-loop2 : tie.InvT-loop2
-Inv-loop2 platform n costs₀ p q₀ costs q = (q ≤ n) × Held (platform .processors) (cost platform) (16 * p + q) costs
+Inv-loop2 platform wires n costs₀ p q₀ costs q =
+    (q ≤ n) × Held (platform .processors) (cost platform (loaded wires)) (16 * p + q) costs
 
 abbrev μ-loop2 : tie.MeasureT-loop2
-μ-loop2 platform n costs₀ p q₀ costs q = n - q
+μ-loop2 platform wires n costs₀ p q₀ costs q = n - q
 
 abbrev Inv-loop : tie.InvT-loop
-Inv-loop platform n costs₀ p₀ costs p = (p ≤ n) × Held (platform .processors) (cost platform) (16 * p) costs
+Inv-loop platform wires n costs₀ p₀ costs p = (p ≤ n) × Held (platform .processors) (cost platform (loaded wires)) (16 * p) costs
 
 abbrev μ-loop : tie.MeasureT-loop
-μ-loop platform n costs₀ p₀ costs p = n - p
+μ-loop platform wires n costs₀ p₀ costs p = n - p
 
 index-requires : tie.Need-index-requires Inv-loop2 μ-loop2 Inv-loop μ-loop
 index-requires c κs = search needs
