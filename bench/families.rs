@@ -11,9 +11,11 @@ const JOBS: usize = 16;
 /// Edges as pairs of from and to.
 type Shape = Vec<(usize, usize)>;
 
-/// A job as numbers: processors, topology and unit cost; durations; edges as from, to and count.
+/// A job as numbers: processors, topology and unit cost; under topology 3 the costs of its wires, by from, then by to; durations;
+/// edges as from, to and count.
 pub struct Job {
     pub platform: [usize; 3],
+    pub wires: Vec<usize>,
     pub durations: Vec<usize>,
     pub edges: Vec<(usize, usize, usize)>,
 }
@@ -23,6 +25,9 @@ impl Job {
         self.edges.sort_unstable();
         let mut file = vec![1];
         file.extend(self.platform.map(|x| x as u8));
+        for ((from, to), cost) in pairs(self.platform[0]).zip(self.wires) {
+            file.extend([5, from, to, cost].map(|x| x as u8));
+        }
         for duration in self.durations {
             file.push(2);
             file.extend((duration as u32).to_le_bytes());
@@ -36,26 +41,45 @@ impl Job {
     }
 }
 
+/// The pairs of different processors below `n`, by from, then by to.
+fn pairs(n: usize) -> impl Iterator<Item = (usize, usize)> {
+    let all = (0..n).flat_map(move |from| (0..n).map(move |to| (from, to)));
+    all.filter(|(from, to)| from != to)
+}
+
+/// A cost from 0 to `most` for each wire of a platform under topology 3, and none under another.
+pub fn some_wires(dice: &mut Dice, platform: [usize; 3], most: usize) -> Vec<usize> {
+    let [n, topology, _] = platform;
+    let n = if topology == 3 { n } else { 0 };
+    pairs(n).map(|_| dice.below(most + 1)).collect()
+}
+
 pub struct Family {
     pub name: &'static str,
     pub files: Vec<Vec<u8>>,
 }
 
-/// Jobs of a shape on a hypercube, whose dearest message takes as long as the longest task.
-fn family(name: &'static str, shape: fn(&mut Dice) -> Shape) -> Family {
+/// Jobs of a shape whose dearest message takes as long as the longest task: on a hypercube, or by wires as dear as its ways.
+fn family_on(topology: usize, name: &'static str, shape: fn(&mut Dice) -> Shape) -> Family {
     let dice = &mut Dice::new(1);
+    let platform = [16, topology, 5];
     let files = (0..JOBS).map(|_| {
         let edges = shape(dice).into_iter();
         let edges = edges.map(|(from, to)| (from, to, dice.upto(50)));
         Job {
             edges: edges.collect(),
-            platform: [16, 1, 5],
+            platform,
+            wires: some_wires(dice, platform, 20),
             durations: (0..TASKS).map(|_| dice.upto(1000)).collect(),
         }
         .file()
     });
     let files = files.collect();
     Family { name, files }
+}
+
+fn family(name: &'static str, shape: fn(&mut Dice) -> Shape) -> Family {
+    family_on(1, name, shape)
 }
 
 fn chain(_: &mut Dice) -> Shape {
@@ -110,6 +134,7 @@ fn worst() -> Vec<u8> {
     let edges = (2..TASKS).flat_map(|to| [0, 1].map(|from| (from, to, 2 * (TASKS - to))));
     Job {
         platform: [16, 0, 100],
+        wires: Vec::new(),
         durations: vec![1; TASKS],
         edges: edges.collect(),
     }
@@ -124,20 +149,26 @@ fn worst() -> Vec<u8> {
 fn even() -> Vec<u8> {
     Job {
         platform: [16, 0, 0],
+        wires: Vec::new(),
         durations: vec![1000; TASKS],
         edges: Vec::new(),
     }
     .file()
 }
 
-pub fn families() -> [Family; 10] {
+fn dense(dice: &mut Dice) -> Shape {
+    some_edges(dice, TASKS, 1024)
+}
+
+pub fn families() -> [Family; 11] {
     [
         family("chain", chain),
         family("fork-join", fork_join),
         family("in-tree", in_tree),
         family("out-tree", out_tree),
         family("layered", layered),
-        family("dense", |dice| some_edges(dice, TASKS, 1024)),
+        family("dense", dense),
+        family_on(3, "wires", dense),
         family("random", |dice| some_edges(dice, TASKS, 400)),
         family("wide", |_| Shape::new()),
         Family {

@@ -20,6 +20,8 @@ pub struct Reading {
     pub from: [u8; 1024],
     pub to: [u8; 1024],
     pub counts: [u16; 1024],
+    /// The cost from p to q at place 16p + q; 0 where no wire is.
+    pub wires: [u8; 256],
 }
 
 impl Reading {
@@ -35,6 +37,7 @@ impl Reading {
             from: [0; 1024],
             to: [0; 1024],
             counts: [0; 1024],
+            wires: [0; 256],
         }
     }
 }
@@ -54,16 +57,35 @@ pub fn read(file: &[u8], reading: &mut Reading) {
 fn misplaced(rest: &[u8]) -> u8 {
     match rest.first() {
         None => 1,
-        Some(1..=4) => 3,
+        Some(1..=5) => 3,
         Some(_) => 2,
     }
 }
 
 fn judge_platform(p: Platform) -> Result<(), u8> {
-    if !(1..=16).contains(&p.processors) || p.topology > 2 || p.unit > 100 {
+    if !(1..=16).contains(&p.processors) || p.topology > 3 || p.unit > 100 {
         return Err(4);
     }
     Ok(())
+}
+
+fn judge_cost(cost: u8) -> Result<(), u8> {
+    if cost > 250 {
+        return Err(4);
+    }
+    Ok(())
+}
+
+/// The pairs of processors that have a wire each, in the order of the file: all under topology 3, else none.
+fn pairs(p: Platform) -> impl Iterator<Item = (u8, u8)> {
+    let n = if p.topology == 3 { p.processors } else { 0 };
+    let all = (0..n).flat_map(move |from| (0..n).map(move |to| (from, to)));
+    all.filter(|(from, to)| from != to)
+}
+
+/// The place of a wire in its array; no processor is above 15.
+fn place((from, to): (u8, u8)) -> usize {
+    usize::from(from % 16 * 16 + to % 16)
 }
 
 fn judge_duration(duration: u32) -> Result<(), u8> {
@@ -86,11 +108,32 @@ fn judge_edge(from: u8, to: u8, count: u16, before: Option<u16>, tasks: usize) -
     Ok(())
 }
 
+/// Reads the wires, and gives what follows them and whether all pairs have one.
+fn fill_wires<'a>(reading: &mut Reading, file: &'a [u8]) -> Result<(&'a [u8], bool), u8> {
+    if reading.platform.topology != 3 {
+        return Ok((file, true));
+    }
+    let mut pairs = pairs(reading.platform);
+    let mut due = pairs.next();
+    let mut rest = file;
+    while let Some((5, body)) = rest.split_first() {
+        let (&[from, to, cost], next) = body.split_first_chunk().ok_or(1)?;
+        judge_cost(cost)?;
+        if due != Some((from, to)) {
+            return Err(14);
+        }
+        reading.wires[place((from, to))] = cost;
+        due = pairs.next();
+        rest = next;
+    }
+    Ok((rest, due.is_none()))
+}
+
 fn fill(reading: &mut Reading, file: &[u8]) -> Result<(usize, usize), u8> {
     let Some((1, body)) = file.split_first() else {
         return Err(misplaced(file));
     };
-    let (&[processors, topology, unit], mut rest) = body.split_first_chunk().ok_or(1)?;
+    let (&[processors, topology, unit], rest) = body.split_first_chunk().ok_or(1)?;
     reading.platform = Platform {
         processors,
         topology,
@@ -98,12 +141,16 @@ fn fill(reading: &mut Reading, file: &[u8]) -> Result<(usize, usize), u8> {
     };
     judge_platform(reading.platform)?;
 
+    let (mut rest, wired) = fill_wires(reading, rest)?;
     let mut tasks = 0;
     while let Some((2, body)) = rest.split_first() {
         let place = reading.durations.get_mut(tasks).ok_or(5)?;
         let (&bytes, next) = body.split_first_chunk().ok_or(1)?;
         let duration = u32::from_le_bytes(bytes);
         judge_duration(duration)?;
+        if !wired {
+            return Err(14);
+        }
         *place = duration;
         tasks += 1;
         rest = next;
@@ -147,6 +194,7 @@ pub fn write(
     from: &[u8; 1024],
     to: &[u8; 1024],
     counts: &[u16; 1024],
+    wires: &[u8; 256],
     out: &mut [u8],
 ) -> Result<usize, u8> {
     let durations = durations.get(..tasks).ok_or(5)?;
@@ -154,6 +202,11 @@ pub fn write(
     let to = &to[..edges];
     let counts = &counts[..edges];
     judge_platform(platform)?;
+    let mut wired = 0;
+    for pair in pairs(platform) {
+        judge_cost(wires[place(pair)])?;
+        wired += 4;
+    }
     if tasks == 0 {
         return Err(3);
     }
@@ -166,10 +219,14 @@ pub fn write(
         before = Some(u16::from_be_bytes([from, to]));
     }
 
-    let length = 5 + 5 * (tasks + edges);
+    let length = 5 + wired + 5 * (tasks + edges);
     let out = out.get_mut(..length).ok_or(9)?;
     out[..4].copy_from_slice(&[1, platform.processors, platform.topology, platform.unit]);
-    let (steps, links) = out[4..length - 1].split_at_mut(5 * tasks);
+    let (records, rest) = out[4..length - 1].split_at_mut(wired);
+    for (record, pair) in records.chunks_exact_mut(4).zip(pairs(platform)) {
+        record.copy_from_slice(&[5, pair.0, pair.1, wires[place(pair)]]);
+    }
+    let (steps, links) = rest.split_at_mut(5 * tasks);
     for (record, duration) in steps.chunks_exact_mut(5).zip(durations) {
         record[0] = 2;
         record[1..].copy_from_slice(&duration.to_le_bytes());

@@ -16,10 +16,15 @@ fn some_job(dice: &mut Dice) -> Job {
     let most = (tasks * (tasks - 1) / 2).min(1024);
     let edges = dice.below(most + 1).min(4 * tasks);
     let shape = families::some_edges(dice, tasks, edges).into_iter();
-    let edges = shape.map(|(from, to)| (from, to, dice.upto(dearest)));
+    let edges = shape
+        .map(|(from, to)| (from, to, dice.upto(dearest)))
+        .collect();
+    let platform = [dice.upto(16), dice.below(4), dice.one_of(&[0, 1, 7, 100])];
+    let most = dice.one_of(&[2, 20, 250]);
     Job {
-        edges: edges.collect(),
-        platform: [dice.upto(16), dice.below(3), dice.one_of(&[0, 1, 7, 100])],
+        edges,
+        platform,
+        wires: families::some_wires(dice, platform, most),
         durations: (0..tasks).map(|_| dice.upto(longest)).collect(),
     }
 }
@@ -30,7 +35,7 @@ fn damage(dice: &mut Dice, file: &mut Vec<u8>) {
     match dice.below(4) {
         0 => file.truncate(place),
         1 => file.push(0),
-        _ => file[place] = dice.one_of(&[0, 1, 3, 4, 5, 17, 255]),
+        _ => file[place] = dice.one_of(&[0, 1, 2, 3, 4, 5, 17, 251, 255]),
     }
 }
 

@@ -4,8 +4,8 @@ use std::hint::black_box;
 use crate::job::{self, Reading, Verdict};
 use crate::{proved, timing};
 
-/// The places that `proved::read` takes: those of the four arrays, and one for the verdict.
-const PLACES: usize = 256 + 3 * 1024 + 1;
+/// The places that `proved::read` takes: those of the five arrays, and one for the verdict.
+const PLACES: usize = 256 + 3 * 1024 + 256 + 1;
 
 // The two calls of crate `timing` over the Rust reader and writer.
 
@@ -18,6 +18,7 @@ fn rust_read(file: &[u8], place: usize) -> u32 {
         256..1280 => u32::from(r.from[place - 256]),
         1280..2304 => u32::from(r.to[place - 1280]),
         2304..3328 => u32::from(r.counts[place - 2304]),
+        3328..3584 => u32::from(r.wires[place - 3328]),
         _ => match r.verdict {
             Verdict::Counts { .. } => 0,
             Verdict::Refused(number) => u32::from(number),
@@ -41,6 +42,7 @@ fn rust_copy(file: &[u8], out: &mut [u8]) -> u32 {
         &r.from,
         &r.to,
         &r.counts,
+        &r.wires,
         out,
     ) {
         Ok(_) => 0,
@@ -79,9 +81,13 @@ pub fn hold(files: &[&[u8]]) {
     println!("{} files: both readers and both writers agree", files.len());
 }
 
-/// A job file whose last task is `last`, with the first `edges` edges.
-fn job_file(last: u8, edges: usize) -> Vec<u8> {
-    let mut file = vec![1, 16, 2, 100];
+/// A job file on 16 processors whose last task is `last`, with the first `edges` edges; with wires under topology 3.
+fn job_file(topology: u8, last: u8, edges: usize) -> Vec<u8> {
+    let mut file = vec![1, 16, topology, 100];
+    let pairs = (0..16).flat_map(|from| (0..16).map(move |to| (from, to)));
+    for (from, to) in pairs.filter(|(from, to)| topology == 3 && from != to) {
+        file.extend([5, from, to, from * 16 + to / 2]);
+    }
     for t in 0..=last {
         file.push(2);
         file.extend((1_000_000 - 977 * u32::from(t)).to_le_bytes());
@@ -120,8 +126,9 @@ fn time_file(name: &str, file: &[u8]) {
 
 pub fn time() {
     for (name, file) in [
-        ("256 tasks, 1,024 edges", job_file(255, 1024)),
-        ("10 tasks, 12 edges", job_file(9, 12)),
+        ("256 tasks, 1,024 edges", job_file(2, 255, 1024)),
+        ("the same, 240 wires", job_file(3, 255, 1024)),
+        ("10 tasks, 12 edges", job_file(2, 9, 12)),
     ] {
         assert!(same(&file));
         time_file(name, &file);

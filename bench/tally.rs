@@ -1,11 +1,11 @@
 //! How often each answer came.
 
 /// By the answer's number.
-pub struct Tally([usize; 14]);
+pub struct Tally([usize; 15]);
 
 impl Tally {
     pub fn new() -> Self {
-        Tally([0; 14])
+        Tally([0; 15])
     }
 
     pub fn count(&mut self, answer: u32) {

@@ -4,16 +4,17 @@
     make_vectors.py            writes crates/vectors/stdin and crates/vectors/stdout
     make_vectors.py --check    says whether the two files are what it makes
 
-The expected lines come from the reference planner, tests/reference/etf.py, alone. The cases are made in tests/vectors;
-crates/vectors/src/main.rt and the files that it names say how a case is laid out.
+The expected lines come from the reference alone: tests/reference/requests.py with the requests in force that have landed
+(tests/rules.py). The cases are made in tests/vectors; crates/vectors/src/main.rt and the files that it names say how a case is
+laid out.
 """
 import sys
 from pathlib import Path
 
 TOP = Path(__file__).resolve().parent.parent
-sys.path[:0] = [str(TOP / "tests"), str(TOP / "tests" / "reference")]
+sys.path.insert(0, str(TOP / "tests"))
 sys.dont_write_bytecode = True
-from vectors import checking, larger, reading, refusals, shortcuts, worked, writing  # noqa: E402
+from vectors import checking, larger, loaded, reading, refusals, shortcuts, wires, worked, writing  # noqa: E402
 from vectors.cases import Cases  # noqa: E402
 from vectors.dice import Dice  # noqa: E402
 
@@ -24,7 +25,7 @@ STDOUT = TOP / "crates" / "vectors" / "stdout"
 
 def all_cases():
     cases, dice = Cases(), Dice(SEED)
-    for part in (reading, writing, worked, refusals, checking, shortcuts, larger):
+    for part in (reading, writing, worked, refusals, checking, shortcuts, larger, wires, loaded):
         part.add_cases(cases, dice)
     return cases
 

@@ -41,10 +41,10 @@ def before_the_file(kind, body):
 
 
 def asked(cases):
-    """Each job file with no plan, and each plan of a case `b` with its job file; nothing twice. A case `w` has no file."""
+    """Each job file with no plan, and each plan of a case `b` with its job file; nothing twice. A case of the writer has no file."""
     found = {}
     for kind, body in split(cases):
-        if kind != "w":
+        if kind not in "wv":
             at = before_the_file(kind, body)
             found[body[at:], None] = True
             if kind == "b":

@@ -1,7 +1,8 @@
 """The cases so far, and the lines that each must give."""
 from collections import Counter
 
-MOST_BODY = 8192
+MOST_BODY = 16384
+MOST_OUTPUT = 1_048_576  # of a program that `rt check` runs
 
 
 class Cases:
@@ -15,4 +16,6 @@ class Cases:
         self.kinds[kind.decode()] += 1
 
     def output(self):
-        return "".join(line + "\n" for line in self.lines).encode()
+        lines = "".join(line + "\n" for line in self.lines).encode()
+        assert len(lines) <= MOST_OUTPUT
+        return lines

@@ -1,5 +1,5 @@
 """A case for each entry above the reader: its body, and the lines that it must give."""
-import etf
+import rules
 from vectors.told import SCRATCH, digest, told
 
 # Numbers that no planner writes: no planned time passes 460,000,000, and a processor is below 16.
@@ -78,7 +78,7 @@ LISTING = 12288
 
 
 def listing(cases, data, fill=FILLS[2]):
-    text = etf.report(data)
+    text = rules.report(data)
     past = digest([fill] * (LISTING - len(text)))
     cases.add(b"t", bytes([fill]) + data, *text.splitlines(), words("listing of", len(text), "past it", past))
 

@@ -1,33 +1,33 @@
 """Jobs, and the shapes that their edges can have."""
-import etf
+import rules
 from vectors.dice import near
 
 MOST_TASKS, MOST_EDGES = 256, 1024
-LONGEST = 6405  # the bytes of the greatest file
-SMALL = etf.Job(2, 0, 2, [4, 3, 2], [(0, 2, 1), (1, 2, 3)])
+LONGEST, UNWIRED = 7365, 6405  # the bytes of the greatest file, and of the greatest without wires
+SMALL = rules.job(2, 0, 2, [4, 3, 2], [(0, 2, 1), (1, 2, 3)])
 PAIRS = [(a, b) for a in range(256) for b in range(a + 1, 256)]
 
 
 def tasks_only(m, n=2):
-    return etf.Job(n, 0, 2, [5] * m, [])
+    return rules.job(n, 0, 2, [5] * m, [])
 
 
 def greatest(dice):
     pairs = dice.some(PAIRS, 1024)
-    return etf.Job(dice.between(1, 16), dice.below(3), dice.between(0, 100),
+    return rules.job(dice.between(1, 16), dice.below(3), dice.between(0, 100),
                    [dice.between(1, 1_000_000) for _ in range(256)],
                    [(a, b, dice.between(1, 1000)) for a, b in pairs])
 
 
 def greatest_values():
-    return etf.Job(16, 2, 100, [1_000_000] * 256, [(a, b, 1000) for a, b in PAIRS[-1024:]])
+    return rules.job(16, 2, 100, [1_000_000] * 256, [(a, b, 1000) for a, b in PAIRS[-1024:]])
 
 
 def random_job(dice, most_tasks, most_edges):
     m = dice.between(1, most_tasks)
     pairs = [(a, b) for a in range(m) for b in range(a + 1, m)]
     pairs = dice.some(pairs, min(len(pairs), dice.between(0, most_edges)))
-    return etf.Job(dice.between(1, 16), dice.below(3), dice.between(0, 100),
+    return rules.job(dice.between(1, 16), dice.below(3), dice.between(0, 100),
                    [near(dice, 1, 1_000_000) for _ in range(m)],
                    [(a, b, near(dice, 1, 1000)) for a, b in pairs])
 
@@ -86,3 +86,38 @@ def numbers(dice, most, count):
         lambda: dice.between(1, most),
     ])
     return [draw() for _ in range(count)]
+
+
+# ---- wires
+
+def distinct(n):
+    """A cost for each pair that shows which pair it is of, and which way."""
+    return [(16 * p + q) % 251 for p, q in rules.pairs_due(n)]
+
+
+def costs(dice, n):
+    """A cost for each pair: small ones, any, near the ends, or cheap there and dear back."""
+    small = dice.one_of([1, 3, 9])
+    draw = dice.one_of([
+        lambda p, q: dice.below(small + 1),
+        lambda p, q: dice.below(small + 1),
+        lambda p, q: dice.below(251),
+        lambda p, q: near(dice, 0, 250),
+        lambda p, q: dice.below(small + 1) if (p < q) == (p + q) % 2 else dice.between(small, 9 * small),
+    ])
+    return [draw(p, q) for p, q in rules.pairs_due(n)]
+
+
+def with_wires(dice, job, n=None):
+    """The job with wires in place of its wiring, on as many boards or on n."""
+    n = job.boards if n is None else n
+    return rules.wired(n, costs(dice, n), job.durations, job.links, job.unit)
+
+
+def greatest_wired(dice):
+    return with_wires(dice, greatest(dice), 16)
+
+
+def greatest_wired_values():
+    job = greatest_values()
+    return rules.wired(16, [250] * 240, job.durations, job.links, job.unit)

@@ -1,5 +1,5 @@
 """Larger jobs of each shape, on 1 to 16 processors, and plans for some of them that have a little damage."""
-import etf
+import rules
 from vectors.entries import SCRATCH, handed, listing, plan, planned, station_plan
 from vectors.jobs import MOST_EDGES, MOST_TASKS, SHAPES, dense, fork_join, greatest, greatest_values, layered, numbers, tree_in, tree_out
 from vectors.plans import by_chance, changed, later, tight
@@ -11,17 +11,17 @@ MOST_DURATION, MOST_COUNT = 1_000_000, 1000
 def shaped(dice, shape, m, n, wiring, unit):
     pairs = dice.some(sorted(set(shape(dice, m))), MOST_EDGES)
     counts = numbers(dice, MOST_COUNT, len(pairs))
-    return etf.Job(n, wiring, unit, numbers(dice, MOST_DURATION, m), [(a, b, k) for (a, b), k in zip(pairs, counts)])
+    return rules.job(n, wiring, unit, numbers(dice, MOST_DURATION, m), [(a, b, k) for (a, b), k in zip(pairs, counts)])
 
 
 def independent(dice, m, n):
     """Equal tasks without edges."""
-    return etf.Job(n, dice.below(3), dice.below(101), [dice.one_of([1, 7, MOST_DURATION])] * m, [])
+    return rules.job(n, dice.below(3), dice.below(101), [dice.one_of([1, 7, MOST_DURATION])] * m, [])
 
 
 def square(n, wiring):
     """Task T is on processor T, and the arrivals of task n + T are the costs from there to each processor."""
-    return etf.Job(n, wiring, 3, [10] * (2 * n), [(t, n + t, 1) for t in range(n)])
+    return rules.job(n, wiring, 3, [10] * (2 * n), [(t, n + t, 1) for t in range(n)])
 
 
 def some_jobs(dice):
@@ -40,8 +40,8 @@ def full_jobs(dice):
     for turn, shape in enumerate((fork_join, tree_in, tree_out, layered, dense)):
         yield shaped(dice, shape, MOST_TASKS, dice.one_of([3, 8, 16]), turn % 3, dice.one_of([1, 10, 100]))
     yield independent(dice, MOST_TASKS, 16)
-    yield etf.Job(1, 0, 100, [MOST_DURATION] * MOST_TASKS, [(t, t + 1, MOST_COUNT) for t in range(MOST_TASKS - 1)])
-    yield etf.Job(16, 1, 100, [MOST_DURATION] * MOST_TASKS, [(t, t + 1, MOST_COUNT) for t in range(MOST_TASKS - 1)])
+    yield rules.job(1, 0, 100, [MOST_DURATION] * MOST_TASKS, [(t, t + 1, MOST_COUNT) for t in range(MOST_TASKS - 1)])
+    yield rules.job(16, 1, 100, [MOST_DURATION] * MOST_TASKS, [(t, t + 1, MOST_COUNT) for t in range(MOST_TASKS - 1)])
 
 
 def damaged_plans(cases, dice, file):

@@ -2,9 +2,9 @@
 
 A plan is a list of a processor and a start for each task.
 """
-import etf
+import rules
 
-LATEST = etf.LATEST_START
+LATEST = rules.LATEST_START
 
 
 def as_bytes(plan):
@@ -12,15 +12,15 @@ def as_bytes(plan):
 
 
 def as_plan(data, m):
-    return [(data[5 * t], etf.number(data[5 * t + 1 : 5 * t + 5])) for t in range(m)]
+    return [(data[5 * t], rules.number(data[5 * t + 1 : 5 * t + 5])) for t in range(m)]
 
 
 def tight(dice, job):
     """A good plan: each task by number on some processor, as early as that and the messages allow."""
-    plan, free = [], [0] * job.boards
-    for t, duration in enumerate(job.steps):
+    plan, free, durations = [], [0] * job.boards, job.durations
+    for t, duration in enumerate(durations):
         p = dice.below(job.boards)
-        there = [plan[l[0]][1] + job.steps[l[0]] + etf.bundle(job, l, plan[l[0]][0], p) for l in job.links if l[1] == t]
+        there = [plan[l[0]][1] + durations[l[0]] + rules.bundle(job, l, plan[l[0]][0], p) for l in job.links if l[1] == t]
         start = max([free[p], *there])
         free[p] = start + duration
         plan.append((p, start))
@@ -34,7 +34,7 @@ def later(dice, plan):
 
 
 def by_chance(dice, job):
-    horizon = dice.one_of([1, 10, sum(job.steps), 2 * LATEST])
+    horizon = dice.one_of([1, 10, sum(job.durations), 2 * LATEST])
     return [(dice.below(job.boards), dice.below(horizon + 1)) for _ in job.steps]
 
 
@@ -42,11 +42,12 @@ def changed(dice, job, plan):
     """The plan with one placement changed by a little."""
     t, u = dice.below(len(plan)), dice.below(len(plan))
     p, start = plan[t]
+    durations = job.durations
     p, start = dice.one_of([
         (p, start - 1), (p, start - 1), (p, start + 1), (p, 0), (p, start + dice.between(2, 1000)),
         (p, LATEST), (p, LATEST + 1), (p, dice.between(LATEST + 1, 2**32 - 1)), (p, plan[u][1]),
         (plan[u][0], start), (dice.below(job.boards), start), (job.boards, start), (dice.between(job.boards, 255), start),
-        (p, max(0, plan[u][1] - job.steps[t])), (p, plan[u][1] + job.steps[u]),
+        (p, max(0, plan[u][1] - durations[t])), (p, plan[u][1] + durations[u]),
     ])
     return plan[:t] + [(p, start % 2**32)] + plan[t + 1 :]
 

@@ -1,19 +1,21 @@
 """Cases of the job reader."""
-import etf
-from vectors.jobs import LONGEST, PAIRS, SMALL, greatest, greatest_values, random_job
+import rules
+from vectors.jobs import PAIRS, SMALL, UNWIRED, greatest, greatest_values, random_job
 from vectors.records import END, damaged, link, rack, step
 
 
 def read_line(data):
     try:
-        job = etf.read(data)
-    except etf.Refused as refusal:
+        job = rules.read(data)
+    except rules.Refused as refusal:
         return f"refused {refusal.number} platform 0 0 0 tasks edges spare 0"
     words = ["job", len(job.steps), len(job.links), "platform", job.boards, job.wiring, job.unit]
-    words += ["tasks", *job.steps, "edges"]
+    if job.wiring == 3:
+        words += ["wires", *(cost for _, _, cost in job.wires)]
+    words += ["tasks", *job.durations, "edges"]
     for link in job.links:
         words += link
-    words += ["spare", 0, "same" if etf.write(job) == data else "differs"]
+    words += ["spare", 0, "same" if rules.write(job) == data else "differs"]
     return " ".join(map(str, words))
 
 
@@ -30,12 +32,12 @@ def table_reads(cases):
     read(cases, rack() + step() * 257)
     read(cases, rack() + step() + link(0, 0) + END)
     read(cases, rack() + step() * 2 + link(0, 1) * 2 + END)
-    read(cases, etf.write(SMALL) + b"\x00")
+    read(cases, rules.write(SMALL) + b"\x00")
 
 
 def edge_reads(cases):
     """Each end of each range, and the values next to it."""
-    read(cases, etf.write(SMALL))
+    read(cases, rules.write(SMALL))
     read(cases, rack(1) + step(1) + END)
     for n in (0, 1, 2, 16, 17, 255):
         read(cases, rack(n=n) + step() + END)
@@ -63,8 +65,8 @@ def size_reads(cases, dice):
     for m in (255, 256, 257):
         read(cases, rack() + step() * m + END)
     for job in (greatest_values(), greatest(dice)):
-        data = etf.write(job)
-        assert len(data) == LONGEST
+        data = rules.write(job)
+        assert len(data) == UNWIRED
         read(cases, data)
         for more in (b"\x00", END, link(254, 255)):
             read(cases, data + more)
@@ -75,8 +77,8 @@ def size_reads(cases, dice):
     read(cases, data[:-1] + b"\x05")
     read(cases, data[:-2])
     read(cases, data + bytes(8192 - len(data)))
-    few = etf.Job(3, 1, 1, [9] * 47, [(a, b, 2) for a, b in PAIRS if b < 47][:1024])
-    read(cases, etf.write(few))
+    few = rules.job(3, 1, 1, [9] * 47, [(a, b, 2) for a, b in PAIRS if b < 47][:1024])
+    read(cases, rules.write(few))
 
 
 def precedence_reads(cases):
@@ -113,7 +115,7 @@ def kind_reads(cases):
 
 def cut_reads(cases):
     """A small job cut at each length, and with each byte changed."""
-    data = etf.write(SMALL)
+    data = rules.write(SMALL)
     for n in range(len(data)):
         read(cases, data[:n])
     for i in range(len(data)):
@@ -123,9 +125,9 @@ def cut_reads(cases):
 
 def random_reads(cases, dice):
     for _ in range(60):
-        read(cases, etf.write(random_job(dice, 12, 20)))
+        read(cases, rules.write(random_job(dice, 12, 20)))
     for _ in range(6):
-        read(cases, etf.write(random_job(dice, 120, 150)))
+        read(cases, rules.write(random_job(dice, 120, 150)))
     for _ in range(220):
         read(cases, damaged(dice, random_job(dice, 9, 12)))
     for _ in range(30):

@@ -1,5 +1,5 @@
 """The records of a job file, and damaged files."""
-import etf
+import rules
 
 END = b"\x04"
 
@@ -16,9 +16,14 @@ def link(start, to, count=1):
     return bytes([3, start, to]) + count.to_bytes(2, "little")
 
 
+def wire(start, to, cost=7):
+    return bytes([5, start, to, cost])
+
+
 def records(job):
     """The records of a job, also of one with values out of range."""
-    return [rack(job.boards, job.wiring, job.unit), *map(step, job.steps), *(link(*l) for l in job.links), END]
+    return [rack(job.boards, job.wiring, job.unit), *(wire(*w) for w in job.wires), *map(step, job.durations),
+            *(link(*l) for l in job.links), END]
 
 
 def damaged(dice, job):
@@ -53,8 +58,12 @@ def damaged(dice, job):
 
 
 def out_of_range(dice, job):
-    """A copy of the job with one value or one edge altered, most often to one that is refused."""
-    new = etf.Job(job.boards, job.wiring, job.unit, job.steps, job.links)
+    """A copy of the job with one value, edge or wire altered, most often to one that is refused."""
+    new = rules.job(job.boards, job.wiring, job.unit, job.durations, job.links, job.wires)
+    if new.wires and dice.below(2):
+        i = dice.below(len(new.wires))
+        new.wires[i] = altered_wire(dice, new, *new.wires[i])
+        return new
     way = dice.below(7)
     i = dice.below(len(new.steps))
     if way == 0:
@@ -64,7 +73,7 @@ def out_of_range(dice, job):
     elif way == 2:
         new.unit = dice.one_of([100, 101, 255])
     elif way == 3 or not new.links:
-        new.steps[i] = dice.one_of([0, 1_000_001, 2**32 - 1, 1_000_000])
+        new.steps[i] = rules.plain(dice.one_of([0, 1_000_001, 2**32 - 1, 1_000_000]))
     else:
         i = dice.below(len(new.links))
         start, to, count = new.links[i]
@@ -76,3 +85,11 @@ def out_of_range(dice, job):
             start, to = dice.one_of([(start, 255), (start, start), new.links[0][:2], new.links[-1][:2]])
         new.links[i] = (start, to, count)
     return new
+
+
+def altered_wire(dice, job, start, to, cost):
+    n = job.boards
+    return dice.one_of([
+        (start, to, dice.one_of([250, 251, 255])), (to, start, cost), (start, start, cost), (start, n, cost), (n, to, cost),
+        (start, dice.below(n), cost), (dice.below(n), to, cost), dice.one_of(job.wires), (255, 255, cost),
+    ])

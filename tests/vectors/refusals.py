@@ -1,5 +1,5 @@
 """The refusals of the entries that plan: 1 to 8 as the reader's, 9 for each slice."""
-import etf
+import rules
 from vectors.entries import SCRATCH, check, handed, listing, plan, planned, station_check, station_plan
 from vectors.jobs import MOST_TASKS, SMALL, greatest_values, random_job, tasks_only
 from vectors.records import END, damaged, link, rack, step
@@ -8,13 +8,13 @@ from vectors.told import told
 # the small inputs of the refusal table, and others
 REFUSED = {
     1: [b"\x01\x02\x00", rack(), rack() + step(), rack() + step()[:4], rack() + step() * 2 + link(0, 1)[:3]],
-    2: [b"\x09", b"\x00", rack() + b"\x05", rack() + step() + b"\xff"],
+    2: [b"\x09", b"\x00", rack() + b"\x08", rack() + step() + b"\xff"],
     3: [step(1), END, rack() + END, rack() + step() + rack(), rack() + step() * 2 + link(0, 1) + step()],
-    4: [b"\x01\x00\x00\x05", rack(wiring=3), rack() + step(0) + END, rack() + step() * 2 + link(0, 1, 0) + END],
-    5: [rack() + step() * 257, etf.write(greatest_values())[:-1] + link(254, 255) + END],
+    4: [b"\x01\x00\x00\x05", rack(wiring=4), rack() + step(0) + END, rack() + step() * 2 + link(0, 1, 0) + END],
+    5: [rack() + step() * 257, rules.write(greatest_values())[:-1] + link(254, 255) + END],
     6: [rack() + step() + link(0, 0) + END, rack() + step() * 2 + link(1, 0) + END, rack() + step() * 2 + link(0, 2) + END],
     7: [rack() + step() * 2 + link(0, 1) * 2 + END, rack() + step() * 3 + link(1, 2) + link(0, 1) + END],
-    8: [etf.write(SMALL) + b"\x00", etf.write(SMALL) * 2],
+    8: [rules.write(SMALL) + b"\x00", rules.write(SMALL) * 2],
 }
 
 
@@ -35,7 +35,7 @@ def passed_on(cases):
 def too_short(cases):
     """Each slice alone too short, by one place and by more, and all of the exact length."""
     for job in (SMALL, tasks_only(1)):
-        data, m = etf.write(job), len(job.steps)
+        data, m = rules.write(job), len(job.steps)
         enough = [m, m, SCRATCH]
         plan(cases, data, *enough)
         for slot, places in enumerate(enough):
@@ -50,7 +50,7 @@ def too_short(cases):
 
 
 def greatest_too_short(cases):
-    data = etf.write(tasks_only(MOST_TASKS))
+    data = rules.write(tasks_only(MOST_TASKS))
     for rooms in ((256, 256, 4096), (255, 256, 4096), (256, 255, 4096), (256, 256, 4095), (257, 257, 4097)):
         plan(cases, data, *rooms)
     for room in (5 * 256 - 1, 5 * 256, 5 * 256 + 1):

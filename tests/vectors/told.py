@@ -1,7 +1,7 @@
 """What the reference planner says of a file, and of the plans that are handed in for it."""
 from functools import lru_cache
 
-import etf
+import rules
 from vectors.plans import as_bytes, as_plan
 
 SCRATCH = 4096
@@ -22,13 +22,13 @@ class Told:
     def __init__(self, data):
         self.data, self.refusal, self.job, self.tasks = data, 0, None, 0
         try:
-            self.job = etf.read(data)
-        except etf.Refused as refused:
+            self.job = rules.read(data)
+        except rules.Refused as refused:
             self.refusal = refused.number
             return
         self.tasks = len(self.job.steps)
-        self.plan = etf.plan(self.job)
-        self.cover, self.dearest = etf.cover(self.job, self.plan), etf.dearest(self.job)
+        self.plan = rules.plan(self.job)
+        self.cover, self.dearest = rules.cover(self.job, self.plan), rules.dearest(self.job)
 
     def bytes(self):
         """The planner's plan as the station controller gets it."""
@@ -36,7 +36,7 @@ class Told:
 
     def checked(self, starts, processors):
         """The checker's answer: 0 for a yes."""
-        return self.refusal or etf.check(self.job, processors, starts)
+        return self.refusal or rules.check(self.job, processors, starts)
 
     def bytes_checked(self, plan):
         """The answer of the station's checker."""
@@ -45,7 +45,7 @@ class Told:
         if len(plan) < 5 * self.tasks:
             return 9
         rows = as_plan(plan, self.tasks)
-        return etf.check(self.job, [p for p, _ in rows], [start for _, start in rows])
+        return rules.check(self.job, [p for p, _ in rows], [start for _, start in rows])
 
 
 @lru_cache(maxsize=None)
@@ -54,4 +54,4 @@ def told(data):
 
 
 def of_job(job):
-    return told(etf.write(job))
+    return told(rules.write(job))

@@ -1,11 +1,11 @@
 """The worked cases and the edges of document 01, "Ticks worked out"."""
-import etf
+import rules
 from vectors.entries import FILLS, handed, plan, planned
 from vectors.jobs import SMALL
 from vectors.records import END, link, rack, step
 from vectors.told import of_job, told
 
-LATEST = etf.LATEST_START
+LATEST = rules.LATEST_START
 
 BYTES_OF_A = bytes.fromhex("01020002 0204000000 0203000000 0202000000 0300020100 0301020300 04")
 TEXT_OF_A = """plan 2 3 2
@@ -20,7 +20,7 @@ dearest 6
 
 def spread(unit):
     """The job of D, E, G and H."""
-    return etf.Job(2, 0, unit, [3, 2, 2], [(0, 1, 1), (0, 2, 1)])
+    return rules.job(2, 0, unit, [3, 2, 2], [(0, 1, 1), (0, 2, 1)])
 
 
 # the processor and the start of task 2, and the end
@@ -35,7 +35,7 @@ def waiting(wiring, n, p, q):
     n + 1 waits for 3 messages from the task that was on p, and so starts on q at 4 and three times the hops."""
     durations = [100] * (n + 2)
     durations[p], durations[q] = 4, 5
-    return etf.Job(n, wiring, 1, durations, [(p, n + 1, 3)])
+    return rules.job(n, wiring, 1, durations, [(p, n + 1, 3)])
 
 
 def spread_cases(cases):
@@ -53,7 +53,7 @@ def hop_cases(cases):
         file = of_job(job)
         assert (file.plan.board[n + 1], file.plan.start[n + 1]) == (q, 4 + 3 * hops)
         planned(cases, file.data)
-        pair = etf.write(etf.Job(n, wiring, 1, [4, 5], [(0, 1, 1)]))
+        pair = rules.write(rules.job(n, wiring, 1, [4, 5], [(0, 1, 1)]))
         for early in (0, 1):
             assert told(pair).checked([0, 4 + hops - early], [p, q]) == 13 * early
             handed(cases, pair, [(p, 0), (q, 4 + hops - early)])
@@ -70,17 +70,17 @@ def edges(cases):
         planned(cases, data, more=2)
         handed(cases, data, [(0, 0), (0, 5)])
     for n in (16, 1):
-        job = etf.Job(n, 2, 100, [1_000_000] * 3, [(0, 1, 1000), (1, 2, 1000)])
-        planned(cases, etf.write(job))
+        job = rules.job(n, 2, 100, [1_000_000] * 3, [(0, 1, 1000), (1, 2, 1000)])
+        planned(cases, rules.write(job))
     one = rack() + step() + END
     for start in (0, LATEST - 1, LATEST, LATEST + 1, 2**31, 2**32 - 1):
         handed(cases, one, [(1, start)])
 
 
 def add_cases(cases, dice):
-    assert etf.write(SMALL) == BYTES_OF_A and etf.report(BYTES_OF_A) == TEXT_OF_A
+    assert rules.write(SMALL) == BYTES_OF_A and rules.report(BYTES_OF_A) == TEXT_OF_A
     planned(cases, BYTES_OF_A)
-    one = of_job(etf.Job(1, 0, 0, [1], []))
+    one = of_job(rules.job(1, 0, 0, [1], []))
     assert (one.plan.start, one.plan.end, one.cover) == ([0], 1, 0)
     planned(cases, one.data)
     spread_cases(cases)

@@ -1,32 +1,41 @@
 """Cases of the job writer."""
-import etf
+import rules
 from vectors.dice import ALL_ONES
-from vectors.jobs import LONGEST, SMALL, greatest, greatest_values, random_job, tasks_only
+from vectors.jobs import SMALL, UNWIRED, greatest, greatest_values, random_job, tasks_only
 from vectors.records import out_of_range
 
 
 class Held:
-    """A job held as numbers, its counts beside its arrays, and the output that is lent to the writer."""
+    """A job held as numbers, its counts beside its arrays, and the output that is lent to the writer.
 
-    def __init__(self, job, tasks=None, edges=None, room=None, fill=0xEE, spare=(7, 5, 3, 9)):
-        self.job, self.fill, self.spare = job, fill, spare
+    `costs` are those of the wires, 256 of them: from p to q at place 16p + q. A case that gives none has 0 everywhere.
+    """
+
+    def __init__(self, job, tasks=None, edges=None, room=None, fill=0xEE, spare=(7, 5, 3, 9), costs=None):
+        self.job, self.fill, self.spare, self.costs = job, fill, spare, costs
         self.tasks = len(job.steps) if tasks is None else tasks
         self.edges = len(job.links) if edges is None else edges
-        self.room = 5 + 5 * (self.tasks + self.edges) if room is None else room
+        need = 5 + 5 * (self.tasks + self.edges) + (4 * len(self.wires()) if costs else 0)
+        self.room = need if room is None else room
+
+    def wires(self):
+        """The wires that the costs stand for: none but under wiring 3, where each pair has one."""
+        costs, n = self.costs or bytes(256), self.job.boards
+        return [(p, q, costs[16 * p + q]) for p, q in rules.pairs_due(n)] if self.job.wiring == 3 and n <= 16 else []
 
     def judged(self):
         """The job that the counts and the arrays stand for. A count above what the arrays hold stands for one place more."""
         duration, *link = self.spare
-        steps = self.job.steps + [duration] * 257
+        steps = self.job.durations + [duration] * 257
         links = self.job.links + [tuple(link)] * 1025
         job = self.job
-        return etf.Job(job.boards, job.wiring, job.unit, steps[: min(self.tasks, 257)], links[: min(self.edges, 1025)])
+        return rules.job(job.boards, job.wiring, job.unit, steps[: min(self.tasks, 257)], links[: min(self.edges, 1025)], self.wires())
 
     def line(self):
         try:
-            data = etf.write(self.judged(), self.room)
+            data = rules.write(self.judged(), self.room)
             answer = f"written {len(data)}"
-        except etf.Refused as refusal:
+        except rules.Refused as refusal:
             data = b""
             answer = f"refused {refusal.number}"
         out = data + bytes([self.fill]) * (self.room - len(data))
@@ -35,11 +44,11 @@ class Held:
     def body(self):
         job = self.job
         duration, start, to, count = self.spare
-        body = self.tasks.to_bytes(8, "little") + self.edges.to_bytes(8, "little")
+        body = bytes(self.costs or b"") + self.tasks.to_bytes(8, "little") + self.edges.to_bytes(8, "little")
         body += bytes([job.boards, job.wiring, job.unit, self.fill])
         body += self.room.to_bytes(2, "little") + len(job.steps).to_bytes(2, "little")
         body += duration.to_bytes(4, "little") + bytes([start, to]) + count.to_bytes(2, "little")
-        for d in job.steps:
+        for d in job.durations:
             body += d.to_bytes(4, "little")
         for f, t, k in job.links:
             body += bytes([f, t]) + k.to_bytes(2, "little")
@@ -48,37 +57,37 @@ class Held:
 
 def write(cases, job, **given):
     held = Held(job, **given)
-    cases.add(b"w", held.body(), held.line())
+    cases.add(b"v" if held.costs else b"w", held.body(), held.line())
 
 
 def table_writes(cases):
     """The small inputs of the refusal table that a job held as numbers can have: 3 to 7 and 9."""
-    write(cases, etf.Job(2, 0, 2, [], []))
-    write(cases, etf.Job(0, 0, 5, [5], []))
+    write(cases, rules.job(2, 0, 2, [], []))
+    write(cases, rules.job(0, 0, 5, [5], []))
     write(cases, tasks_only(2), tasks=257, room=40)
-    write(cases, etf.Job(2, 0, 2, [5], [(0, 0, 1)]))
-    write(cases, etf.Job(2, 0, 2, [5, 5], [(0, 1, 1), (0, 1, 1)]))
+    write(cases, rules.job(2, 0, 2, [5], [(0, 0, 1)]))
+    write(cases, rules.job(2, 0, 2, [5, 5], [(0, 1, 1), (0, 1, 1)]))
     write(cases, SMALL, room=29)
 
 
 def edge_writes(cases):
     """Each end of each range, and the values next to it."""
     for n in (0, 1, 16, 17, 255):
-        write(cases, etf.Job(n, 0, 2, [5], []))
+        write(cases, rules.job(n, 0, 2, [5], []))
     for wiring in (0, 1, 2, 3, 255):
-        write(cases, etf.Job(2, wiring, 2, [5], []))
+        write(cases, rules.job(2, wiring, 2, [5], []))
     for c in (0, 100, 101, 255):
-        write(cases, etf.Job(2, 0, c, [5], []))
+        write(cases, rules.job(2, 0, c, [5], []))
     for d in (0, 1, 255, 256, 65_536, 1_000_000, 1_000_001, 2**24, 2**32 - 1):
-        write(cases, etf.Job(2, 0, 2, [d], []))
-        write(cases, etf.Job(2, 0, 2, [5, d], [(0, 1, 1)]))
+        write(cases, rules.job(2, 0, 2, [d], []))
+        write(cases, rules.job(2, 0, 2, [5, d], [(0, 1, 1)]))
     for k in (0, 1, 255, 256, 1000, 1001, 32_768, 65_535):
-        write(cases, etf.Job(2, 0, 2, [5, 5], [(0, 1, k)]))
-        write(cases, etf.Job(2, 0, 2, [5] * 3, [(0, 1, 1), (1, 2, k)]))
+        write(cases, rules.job(2, 0, 2, [5, 5], [(0, 1, k)]))
+        write(cases, rules.job(2, 0, 2, [5] * 3, [(0, 1, 1), (1, 2, k)]))
     for start in range(4):
         for to in range(5):
-            write(cases, etf.Job(2, 0, 2, [5] * 4, [(1, 2, 1), (start, to, 4)]))
-    write(cases, etf.Job(2, 0, 2, [5] * 3, [(255, 255, 1)]))
+            write(cases, rules.job(2, 0, 2, [5] * 4, [(1, 2, 1), (start, to, 4)]))
+    write(cases, rules.job(2, 0, 2, [5] * 3, [(255, 255, 1)]))
 
 
 def count_writes(cases, dice):
@@ -101,14 +110,14 @@ def count_writes(cases, dice):
     write(cases, tasks_only(255), tasks=256, spare=(0, 0, 0, 0))
     job = greatest(dice)
     write(cases, job)
-    write(cases, job, room=LONGEST - 1)
-    write(cases, greatest_values(), room=LONGEST + 1, fill=0)
+    write(cases, job, room=UNWIRED - 1)
+    write(cases, greatest_values(), room=UNWIRED + 1, fill=0)
 
 
 def room_writes(cases):
     """Outputs of the exact length, of one byte less and more, and of none."""
-    for job in (SMALL, tasks_only(1), etf.Job(16, 1, 100, [1, 1_000_000], [(0, 1, 1000)])):
-        need = len(etf.write(job))
+    for job in (SMALL, tasks_only(1), rules.job(16, 1, 100, [1, 1_000_000], [(0, 1, 1000)])):
+        need = len(rules.write(job))
         for room in (0, 1, 4, need - 1, need, need + 1, need + 7):
             write(cases, job, room=room)
             write(cases, job, room=room, fill=0x04, spare=(0, 0, 0, 0))
@@ -117,30 +126,30 @@ def room_writes(cases):
 
 def precedence_writes(cases):
     """Where two refusals meet."""
-    bad = etf.Job(0, 3, 101, [0], [(0, 0, 0)])
+    bad = rules.job(0, 3, 101, [0], [(0, 0, 0)])
     for room in (0, 40):
         write(cases, bad, room=room)
         write(cases, bad, tasks=0, room=room)
         write(cases, bad, tasks=257, room=room)
         write(cases, bad, edges=1025, room=room)
         write(cases, bad, tasks=0, edges=1025, room=room)
-        write(cases, etf.Job(2, 0, 2, [], [(0, 0, 0)]), room=room)
-        write(cases, etf.Job(2, 0, 2, [0, 5], [(1, 0, 0)]), room=room)
-        write(cases, etf.Job(2, 0, 2, [5, 0], [(1, 0, 1)]), room=room)
-        write(cases, etf.Job(2, 0, 2, [5, 5], [(1, 0, 0)]), room=room)
-        write(cases, etf.Job(2, 0, 2, [5, 5], [(1, 0, 1001)]), room=room)
-        write(cases, etf.Job(2, 0, 2, [5, 5], [(1, 0, 1)]), room=room)
-        write(cases, etf.Job(2, 0, 2, [5] * 3, [(1, 2, 1), (0, 2, 1), (0, 0, 0)]), room=room)
-        write(cases, etf.Job(2, 0, 2, [5] * 3, [(1, 2, 1), (0, 0, 1)]), room=room)
-        write(cases, etf.Job(2, 0, 2, [5] * 3, [(1, 2, 1), (0, 1, 0)]), room=room)
-        write(cases, etf.Job(2, 0, 2, [5] * 3, [(0, 2, 1), (0, 1, 1)]), room=room)
-        write(cases, etf.Job(2, 0, 2, [5] * 3, [(0, 1, 1), (0, 1, 2)]), room=room)
+        write(cases, rules.job(2, 0, 2, [], [(0, 0, 0)]), room=room)
+        write(cases, rules.job(2, 0, 2, [0, 5], [(1, 0, 0)]), room=room)
+        write(cases, rules.job(2, 0, 2, [5, 0], [(1, 0, 1)]), room=room)
+        write(cases, rules.job(2, 0, 2, [5, 5], [(1, 0, 0)]), room=room)
+        write(cases, rules.job(2, 0, 2, [5, 5], [(1, 0, 1001)]), room=room)
+        write(cases, rules.job(2, 0, 2, [5, 5], [(1, 0, 1)]), room=room)
+        write(cases, rules.job(2, 0, 2, [5] * 3, [(1, 2, 1), (0, 2, 1), (0, 0, 0)]), room=room)
+        write(cases, rules.job(2, 0, 2, [5] * 3, [(1, 2, 1), (0, 0, 1)]), room=room)
+        write(cases, rules.job(2, 0, 2, [5] * 3, [(1, 2, 1), (0, 1, 0)]), room=room)
+        write(cases, rules.job(2, 0, 2, [5] * 3, [(0, 2, 1), (0, 1, 1)]), room=room)
+        write(cases, rules.job(2, 0, 2, [5] * 3, [(0, 1, 1), (0, 1, 2)]), room=room)
 
 
 def random_writes(cases, dice):
     for _ in range(60):
         job = random_job(dice, 8, 10)
-        need = len(etf.write(job))
+        need = len(rules.write(job))
         spare = (dice.below(2**32), dice.below(256), dice.below(256), dice.below(65_536))
         write(cases, job, room=need + dice.between(0, 3), fill=dice.below(256), spare=spare)
     for _ in range(80):

@@ -2,7 +2,7 @@
 -- leave.
 use mathlib.Core.Path.{_≡_}
 use mathlib.Core.List.{List, _∷_}
-use Prim.Native.Nat.{ℕ, _+_, _-_}
+use Prim.Native.Nat.{ℕ, _+_, _-_, _*_}
 use lib.Dec.{ltb}
 use lib.ListN.{length, getD, drop}
 use Rattle.base.specs.Choice.{pick}
@@ -11,7 +11,7 @@ use Rattle.job.specs.declared.Verdict.{Verdict}
 use Rattle.job.specs.declared.Verdict.the-variants.{Counts, Refused as NotRead}
 use Rattle.job.specs.declared.Written.{Written}
 use Rattle.job.specs.declared.Written.the-variants.{Length, Refused as NotWritten}
-use Rattle.job.specs.Limits.{mostTasks, mostEdges}
+use Rattle.job.specs.Limits.{mostProcessors, mostTasks, mostEdges}
 use Rattle.job.specs.Job.{Job}
 use Rattle.job.specs.Read.{Answer, accepted, refused, readJob, verdictNumber}
 use Rattle.job.specs.Write.{heldJob, writeAnswer, writeOut}
@@ -25,7 +25,7 @@ abbrev pub writtenNumber : Written → ℕ
 writtenNumber (Length n) = 0
 writtenNumber (NotWritten k) = k
 
--- places counted through the durations, from, to and the counts: the first that is past each of these arrays
+-- places counted through the durations, from, to, the counts and the wires: the first that is past each of these arrays
 abbrev pub pastDurations : ℕ
 pastDurations = mostTasks
 
@@ -38,6 +38,9 @@ pastTo = pastFrom + mostEdges
 abbrev pub pastCounts : ℕ
 pastCounts = pastTo + mostEdges
 
+abbrev pub pastWires : ℕ
+pastWires = pastCounts + mostProcessors * mostProcessors
+
 -- the number at a place; past the arrays the verdict's number
 unfoldable pub numberAt : Reading → ℕ → ℕ
 numberAt r place =
@@ -45,7 +48,8 @@ numberAt r place =
     (pick (ltb place pastFrom) (getD (r .arrays .from) (place - pastDurations) 0)
     (pick (ltb place pastTo) (getD (r .arrays .to) (place - pastFrom) 0)
     (pick (ltb place pastCounts) (getD (r .arrays .counts) (place - pastTo) 0)
-    (verdictNumber (r .verdict)))))
+    (pick (ltb place pastWires) (getD (r .arrays .wires) (place - pastCounts) 0)
+    (verdictNumber (r .verdict))))))
 
 -- the first m tasks and l edges of what was read
 unfoldable pub heldIn : Reading → ℕ → ℕ → Job

@@ -43,6 +43,14 @@ fn count(counts: &[u16; 1024], place: usize) -> u32
     base::wide16(counts[place])
 }
 
+// The cost of the wire at a place.
+fn cost(wires: &[u8; 256], place: usize) -> u32
+    requires { ⌜ place < 256 ⌝ }
+    ensures { λ r. ⌜ r ≡ getD (now (wires .entry)) place 0 ⌝ }
+{
+    base::wide8(wires[place])
+}
+
 // Reads a file, and returns one number of what was read: which one is not known before, so that every store is due.
 #[no_mangle]
 pub extern "C" fn timing_read(file: &[u8], place: usize) -> u32
@@ -60,6 +68,9 @@ pub extern "C" fn timing_read(file: &[u8], place: usize) -> u32
     }
     if place < 3328 {
         return count(&r.arrays.counts, place - 2304);
+    }
+    if place < 3584 {
+        return cost(&r.arrays.wires, place - 3328);
     }
     let verdict = r.verdict;
     base::wide8(job::number(verdict))

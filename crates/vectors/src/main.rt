@@ -1,12 +1,12 @@
 // Puts each case of standard input through a public entry of the job reader, the planner or the listing, and prints what comes of it.
-// tests/make_vectors.py makes the cases and, from the reference planner, the lines that they must give.
+// tests/make_vectors.py makes the cases and, by the reference, the lines that they must give.
 //
 // A case is a byte that says what it is for, the length of its body in 2 bytes, and the body. Numbers are little-endian.
 //
 //   r  the job reader                      c  the checker
 //   w  the job writer                      s  the station's planner
-//   p  the planner and the cover call      b  the station's checker
-//                                          t  the listing
+//   v  the job writer, with wires          b  the station's checker
+//   p  the planner and the cover call      t  the listing
 //
 // The body of 'r' is a file; the others' are in the files that run them.
 mod checking;
@@ -26,6 +26,9 @@ fn run_job(what: u8, body: &[u8]) {
     }
     if what == b'w' {
         writing::case(body);
+    }
+    if what == b'v' {
+        writing::wired_case(body);
     }
     if what == b't' {
         text::case(body);
@@ -64,7 +67,7 @@ fn next() -> bool {
         return false;
     }
     let length = number::from_two(head[1], head[2]);
-    let mut buffer = [0u8; 8192];
+    let mut buffer = [0u8; 16384];
     let is_whole = fill(&mut buffer, length);
     if is_whole {
         run_job(head[0], show::first(&buffer, length));

@@ -26,6 +26,45 @@ fn show_refusal(number: u8, p: Platform) {
     show_platform(p);
 }
 
+// Whether a place of the wires is one of a pair: two different processors below `n`.
+fn is_pair(place: usize, n: usize) -> bool {
+    let from = place / 16;
+    let to = place % 16;
+    if from == to {
+        return false;
+    }
+    if n <= from {
+        return false;
+    }
+    to < n
+}
+
+// How many processors have wires.
+fn wired(p: Platform) -> usize {
+    if p.topology == 3 {
+        return number::wide8(p.processors) as usize;
+    }
+    0
+}
+
+// The costs among the first `n` processors.
+fn show_costs(wires: &[u8; 256], n: usize) {
+    let mut i: usize = 0;
+    while i < 256 {
+        if is_pair(i, n) {
+            show::word(number::wide8(wires[i]));
+        }
+        i += 1;
+    }
+}
+
+fn show_wires(wires: &[u8; 256], p: Platform) {
+    if p.topology == 3 {
+        show::text(b" wires");
+        show_costs(wires, wired(p));
+    }
+}
+
 // The first `tasks` durations.
 fn show_tasks(durations: &[u32; 256], tasks: usize) {
     let mut i: usize = 0;
@@ -54,6 +93,20 @@ fn show_edges(from: &[u8; 1024], to: &[u8; 1024], counts: &[u16; 1024], edges: u
         show_edge(from[i], to[i], counts[i]);
         i += 1;
     }
+}
+
+// Whether the places of the wires that are of no pair below `n` are 0.
+fn are_wires_clear(wires: &[u8; 256], n: usize) -> bool {
+    let mut i: usize = 0;
+    while i < 256 {
+        if wires[i] != 0 {
+            if !is_pair(i, n) {
+                return false;
+            }
+        }
+        i += 1;
+    }
+    true
 }
 
 // Whether the durations from place `tasks` on are 0.
@@ -86,29 +139,36 @@ fn are_edges_clear(from: &[u8; 1024], to: &[u8; 1024], counts: &[u16; 1024], edg
     true
 }
 
-fn show_spare(are_tasks_clear: bool, are_edges_clear: bool) {
-    if are_tasks_clear {
-        if are_edges_clear {
-            show::text(b" spare 0");
-            return;
+fn show_spare(are_wires_clear: bool, are_tasks_clear: bool, are_edges_clear: bool) {
+    if are_wires_clear {
+        if are_tasks_clear {
+            if are_edges_clear {
+                show::text(b" spare 0");
+                return;
+            }
         }
     }
     show::text(b" spare set");
 }
 
+// The wires, tasks and edges, and whether all other places are 0.
 fn show_job<'a>(
+    platform: Platform,
     tasks: usize,
     edges: usize,
     durations: &'a [u32; 256],
     from: &'a [u8; 1024],
     to: &'a [u8; 1024],
     counts: &'a [u16; 1024],
+    wires: &'a [u8; 256],
 ) {
+    show_wires(wires, platform);
     show::text(b" tasks");
     show_tasks(durations, tasks);
     show::text(b" edges");
     show_edges(from, to, counts, edges);
     show_spare(
+        are_wires_clear(wires, wired(platform)),
         are_tasks_clear(durations, tasks),
         are_edges_clear(from, to, counts, edges),
     );
@@ -140,24 +200,28 @@ pub fn case(file: &[u8]) {
         Verdict::Counts { tasks, edges } => {
             show_counts(tasks, edges, r.platform);
             show_job(
+                r.platform,
                 tasks,
                 edges,
                 &r.arrays.durations,
                 &r.arrays.from,
                 &r.arrays.to,
                 &r.arrays.counts,
+                &r.arrays.wires,
             );
             show_again(file, r.platform, tasks, edges, r.arrays);
         }
         Verdict::Refused(number) => {
             show_refusal(number, r.platform);
             show_job(
+                r.platform,
                 0,
                 0,
                 &r.arrays.durations,
                 &r.arrays.from,
                 &r.arrays.to,
                 &r.arrays.counts,
+                &r.arrays.wires,
             );
             show::text(b"\n");
         }

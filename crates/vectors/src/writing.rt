@@ -6,7 +6,8 @@
 //  17  topology                  24  fill of the durations (4)      32  the durations given (4 each), then
 //  18  unit cost                                                        edges: from, to, count (4 each)
 //
-// Places of the arrays past those that are given hold the fill.
+// Places of the arrays past those that are given hold the fill. A case with wires has all 256 places of theirs before that; in one
+// without they are 0.
 use crate::number;
 use crate::show;
 use job::Arrays;
@@ -14,6 +15,16 @@ use job::Platform;
 use job::Written;
 ghost use Prim.Native.Nat.{_+_, _*_, _≤_};
 ghost use lib.ListN.{length};
+
+fn put_wires(body: &[u8], wires: &mut [u8; 256])
+    requires { ⌜ 256 ≤ length (now body) ⌝ }
+{
+    let mut i: usize = 0;
+    while i < 256 {
+        wires[i] = body[i];
+        i += 1;
+    }
+}
 
 fn put_durations(body: &[u8], given: usize, durations: &mut [u32; 256])
     requires { ⌜ (given ≤ 256) × (32 + 4 * given ≤ length (now body)) ⌝ }
@@ -81,8 +92,8 @@ fn write(body: &[u8], room: usize, arrays: Arrays, out: &mut [u8])
     show::text(b"]\n");
 }
 
-// Runs the case of a job held as numbers.
-pub fn case(body: &[u8]) {
+// Runs the case of a job held as numbers, with these wires.
+fn held(body: &[u8], wires: [u8; 256]) {
     if body.len() < 32 {
         return;
     }
@@ -109,6 +120,20 @@ pub fn case(body: &[u8]) {
         from,
         to,
         counts,
+        wires,
     };
     write(body, room, arrays, &mut out);
+}
+
+pub fn case(body: &[u8]) {
+    held(body, [0u8; 256]);
+}
+
+pub fn wired_case(body: &[u8]) {
+    if body.len() < 256 {
+        return;
+    }
+    let mut wires = [0u8; 256];
+    put_wires(body, &mut wires);
+    held(&body[256..], wires);
 }

@@ -6,7 +6,7 @@ use borrow.Author.Tests.{lt-ltb, le-ltb}
 use lib.ListN.{getD}
 use Rattle.job.specs.declared.Reading.{Reading}
 use Rattle.job.specs.Read.{verdictNumber}
-use Rattle.timing.specs.Timing.{pastDurations, pastFrom, pastTo, pastCounts, numberAt}
+use Rattle.timing.specs.Timing.{pastDurations, pastFrom, pastTo, pastCounts, pastWires, numberAt}
 use Rattle.timing.proofs.timing_read.Statement.{statement}
 use Rattle.timing.proofs.timing_read.Tie as tie
 
@@ -28,9 +28,15 @@ module _ (x r : Reading) (e : x ≡ r) (i : ℕ) where
   unfolding numberAt
   in-counts v g a b d h = rw (← e) (simp (le-ltb _ _ a, le-ltb _ _ b, le-ltb _ _ d, lt-ltb _ _ h) g)
 
-  past : (v : ℕ) → v ≡ verdictNumber (x .verdict) → pastDurations ≤ i → pastFrom ≤ i → pastTo ≤ i → pastCounts ≤ i → v ≡ numberAt r i
+  in-wires : (v : ℕ) → v ≡ getD (x .arrays .wires) (i - pastCounts) 0 → pastDurations ≤ i → pastFrom ≤ i → pastTo ≤ i → pastCounts ≤ i
+      → i < pastWires → v ≡ numberAt r i
   unfolding numberAt
-  past v g a b d h = rw (← e) (simp (le-ltb _ _ a, le-ltb _ _ b, le-ltb _ _ d, le-ltb _ _ h) g)
+  in-wires v g a b d f h = rw (← e) (simp (le-ltb _ _ a, le-ltb _ _ b, le-ltb _ _ d, le-ltb _ _ f, lt-ltb _ _ h) g)
+
+  past : (v : ℕ) → v ≡ verdictNumber (x .verdict) → pastDurations ≤ i → pastFrom ≤ i → pastTo ≤ i → pastCounts ≤ i → pastWires ≤ i
+      → v ≡ numberAt r i
+  unfolding numberAt
+  past v g a b d f h = rw (← e) (simp (le-ltb _ _ a, le-ltb _ _ b, le-ltb _ _ d, le-ltb _ _ f, le-ltb _ _ h) g)
 
 read-requires : tie.Need-read-requires
 read-requires c κs = search needs
@@ -74,20 +80,34 @@ returns-4 c =
     in-counts _ _ (at-if1 .before .read .ensures) _ _ (c .count .ensures)
     (at-if1 .if1 .left) (at-if2 .if2 .left) (at-if3 .if3 .left) (at-if4 .if4 .taken)
 
+cost-requires : tie.Need-cost-requires
+cost-requires c κs = search needs
+
+returns-5 : tie.Need-returns-5
+returns-5 c =
+    let at-if5 = c .before .before .before in
+    let at-if4 = at-if5 .before in
+    let at-if3 = at-if4 .before in
+    let at-if2 = at-if3 .before in
+    let at-if1 = at-if2 .before in
+    in-wires _ _ (at-if1 .before .read .ensures) _ _ (c .cost .ensures)
+    (at-if1 .if1 .left) (at-if2 .if2 .left) (at-if3 .if3 .left) (at-if4 .if4 .left) (at-if5 .if5 .taken)
+
 number-requires : tie.Need-number-requires
 number-requires c κs = search needs
 
 wide8-requires : tie.Need-wide8-requires
 wide8-requires c κs = search needs
 
-returns-5 : tie.Need-returns-5
-returns-5 c =
-    let at-if4 = c .before .before in
+returns-6 : tie.Need-returns-6
+returns-6 c =
+    let at-if5 = c .before .before in
+    let at-if4 = at-if5 .before in
     let at-if3 = at-if4 .before in
     let at-if2 = at-if3 .before in
     let at-if1 = at-if2 .before in
     past _ _ (at-if1 .before .read .ensures) _ _ (c .wide8 .ensures .0 ∙ c .before .number .ensures)
-    (at-if1 .if1 .left) (at-if2 .if2 .left) (at-if3 .if3 .left) (at-if4 .if4 .left)
+    (at-if1 .if1 .left) (at-if2 .if2 .left) (at-if3 .if3 .left) (at-if4 .if4 .left) (at-if5 .if5 .left)
 
 pub timing-read-spec : {M : Type 1} → statement M
 timing-read-spec =
@@ -102,6 +122,8 @@ timing-read-spec =
     returns-3
     count-requires
     returns-4
+    cost-requires
+    returns-5
     number-requires
     wide8-requires
-    returns-5)
+    returns-6)
