@@ -1,12 +1,12 @@
 #!/usr/bin/env python3
-"""Holds the definitions of crate etf to the reference planner on random small jobs, before there is code or proof.
+"""Holds the definitions of crate etf to the reference on random small jobs, before there is code or proof.
 
     definitions.py [seed=N] [jobs=N]     a random seed, which is printed, and 40 jobs if not told
 
 It copies the definitions, and what they cite in the crates below, to target/definitions: no law, no theorem and no function, so
 that a changed definition can be tried before the laws are mended. Beside them it writes a crate `held` with a theorem a job, each
 by computing the definitions: the plan, its end, C, the dearest chain, the rounds, the arrivals and the square of costs, and the
-checker's answers to some plans. `rt dev` then says which do not hold. What is expected is by tests/reference/etf.py alone.
+checker's answers to some plans. `rt dev` then says which do not hold. What is expected is by the reference alone, tests/rules.py.
 
 Status 1: the definitions and the reference differ. Status 2: they cannot be compared, as a definition does not check.
 """
@@ -17,9 +17,9 @@ import sys
 from pathlib import Path
 
 TOP = Path(__file__).resolve().parent.parent
-sys.path[:0] = [str(TOP / "tests" / "reference"), str(TOP / "tools")]
+sys.path[:0] = [str(TOP / "tests"), str(TOP / "tools")]
 sys.dont_write_bytecode = True
-import etf  # noqa: E402
+import rules  # noqa: E402
 from kelvrist.crates import Crates, kept, rt, sources  # noqa: E402
 from kelvrist.inout import Trouble  # noqa: E402
 
@@ -28,23 +28,26 @@ CRATE = "etf"
 MODULES = "Instance Schedule Rule Cover Dearest Checker Topology OfJob".split()  # those of CRATE; what they cite is found
 CITED = re.compile(r"^(?:pub )?use Rattle·(\w+?)(?:·specs)?\.specs\.([\w.]+)\.\{", re.M)
 COMPUTES = re.compile(r"^ *unfoldable pub (\S+) :", re.M)
-OWN = "none some bind orElse refl map flatMap getD tasks finish link job numberOf seen checked".split()  # those of HEAD
+OWN = "none some bind orElse refl map flatMap getD tasks finish wire link job numberOf seen checked".split()  # those of HEAD
 HEAD = """-- Made by tests/definitions.py.
 use mathlib.Core.Option.{{Option, none, some, bind, orElse}}
 use mathlib.Core.Path.{{_≡_, refl}}
 use mathlib.Core.List.{{List, [], _∷_, _++_, map, flatMap}}
 use Prim.Native.Nat.{{ℕ}}
 use lib.ListN.{{getD}}
-use Rattle.job.specs.Job.{{Edge, Job}}
+use Rattle.job.specs.Job.{{Wire, Edge, Job}}
 use Rattle.etf.specs.Instance.{{Instance, tasks}}
 use Rattle.etf.specs.Schedule.{{Placement, finish}}
 {uses}
 
+abbrev wire : ℕ → ℕ → ℕ → Wire
+wire p q c = record {{ from = p; to = q; cost = c }}
+
 abbrev link : ℕ → ℕ → ℕ → Edge
 link a b k = record {{ from = a; to = b; count = k }}
 
-abbrev job : ℕ → ℕ → ℕ → List ℕ → List Edge → Job
-job n w c steps links = record {{ platform = record {{ processors = n; topology = w; unit = c }}; tasks = steps; edges = links }}
+abbrev job : ℕ → ℕ → ℕ → List Wire → List ℕ → List Edge → Job
+job n w c ws ts es = record {{ platform = record {{ processors = n; topology = w; unit = c }}; wires = ws; tasks = ts; edges = es }}
 
 abbrev numberOf : Option ℕ → ℕ
 numberOf none = 0
@@ -118,12 +121,21 @@ def rows(lists):
     return "(" + " ∷ ".join([numbers(l) for l in lists] + ["[]"]) + ")"
 
 
+def made(name, threes):
+    """The list of what a name makes of three numbers each."""
+    return "(" + " ∷ ".join([f"{name} {a} {b} {c}" for a, b, c in threes] + ["[]"]) + ")"
+
+
 def some_job(dice):
     m, n = dice.randint(1, 9), dice.randint(1, dice.choice((2, 4, 16)))
     pairs = [(a, b) for b in range(m) for a in range(b)]
     share = dice.random()
     links = [(a, b, dice.randint(1, 4)) for a, b in sorted(pairs) if dice.random() < share]
-    return etf.Job(n, dice.randint(0, 2), dice.randint(0, 3), [dice.randint(1, 8) for _ in range(m)], links)
+    wiring, unit, durations = dice.randint(0, 3), dice.randint(0, 3), [dice.randint(1, 8) for _ in range(m)]
+    if wiring == 3:
+        most = dice.choice((2, 9, 250))
+        return rules.wired(n, [dice.randint(0, most) for _ in rules.pairs_due(n)], durations, links, unit)
+    return rules.job(n, wiring, unit, durations, links)
 
 
 def some_plans(dice, job, plan):
@@ -142,20 +154,18 @@ def some_plans(dice, job, plan):
 
 def theorem(i, dice, names):
     job = some_job(dice)
-    plan = etf.plan(job)
-    m, n = len(job.steps), job.boards
-    links = "(" + " ∷ ".join([f"link {a} {b} {k}" for a, b, k in job.links] + ["[]"]) + ")"
-    text = [f"abbrev job-{i} : Job", f"job-{i} = job {n} {job.wiring} {job.unit} {numbers(job.steps)} {links}", ""]
-    lines = [(t, plan.board[t], plan.start[t], plan.start[t] + job.steps[t]) for t in range(m)]
-    lines.append((plan.end, etf.cover(job, plan), etf.dearest(job), plan.rounds))
+    plan = rules.plan(job)
+    m, n, durations = len(job.steps), job.boards, job.durations
+    wires, links = made("wire", job.wires), made("link", job.links)
+    text = [f"abbrev job-{i} : Job", f"job-{i} = job {n} {job.wiring} {job.unit} {wires} {numbers(durations)} {links}", ""]
+    lines = [(t, plan.board[t], plan.start[t], plan.start[t] + durations[t]) for t in range(m)]
+    lines.append((plan.end, rules.cover(job, plan), rules.dearest(job), plan.rounds))
     lines += [plan.arrival[16 * t : 16 * t + n] for t in range(m)]
-    costs = [[etf.cost(job, p, q) if p < n and q < n else 0 for q in range(16)] for p in range(16)]
     text += [f"plan-{i} : seen (instance job-{i}) ≡ {rows(lines)}", f"unfolding seen bind flatMap {names}", f"plan-{i} = refl", ""]
-    text += [f"square-{i} : square (job-{i} .platform .processors) (cost (job-{i} .platform)) ≡ {rows(costs)}"]
-    text += [f"unfolding {names}", f"square-{i} = refl", ""]
+    text += [f"square-{i} : costsOf job-{i} ≡ {rows(rules.square(job))}", f"unfolding {names}", f"square-{i} = refl", ""]
     found = []
     for k, (boards, starts) in enumerate(some_plans(dice, job, plan)):
-        answer = etf.check(job, boards, starts)
+        answer = rules.check(job, boards, starts)
         found.append(answer)
         text += [f"check-{i}-{k} : checked (instance job-{i}) {numbers(boards)} {numbers(starts)} ≡ {answer}"]
         text += [f"unfolding checked orElse {names}", f"check-{i}-{k} = refl", ""]
@@ -169,7 +179,7 @@ def write(count, dice):
     modules = cited(crates)
     uses, names = brought_in(modules)
     head = HEAD.format(uses="\n".join(uses))
-    made = [theorem(i, dice, " ".join(names)) for i in range(count)]
+    theorems = [theorem(i, dice, " ".join(names)) for i in range(count)]
     shutil.rmtree(FOLDER / "crates", ignore_errors=True)
     for crate in needed:
         write_crate(crates, crate, {module: text for (of, module), text in modules.items() if of == crate})
@@ -179,8 +189,8 @@ def write(count, dice):
     (FOLDER / "crates.txt").write_text("".join(crates.line[crate] + "\n" for crate in needed) + f"held: {' '.join(needed)}\n")
     (held / "src" / "lib.rt").write_text("// No functions.\n")
     (held / "specs" / "Lib.antt").write_text("pub mod Held\n")
-    (held / "specs" / "Held.antt").write_text(head + "\n" + "\n".join(text for text, _ in made))
-    return head.count("\n"), [answer for _, found in made for answer in found]
+    (held / "specs" / "Held.antt").write_text(head + "\n" + "\n".join(text for text, _ in theorems))
+    return head.count("\n"), [answer for _, found in theorems for answer in found]
 
 
 # ---- what rt says of them

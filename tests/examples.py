@@ -14,22 +14,23 @@ import xml.etree.ElementTree as Xml
 from pathlib import Path
 
 TOP = Path(__file__).resolve().parent.parent
-sys.path[:0] = [str(TOP / folder) for folder in ("tests", "tests/reference", "tests/differential", "tools")]
+sys.path[:0] = [str(TOP / folder) for folder in ("tests", "tests/differential", "tools")]
 sys.dont_write_bytecode = True
-import etf  # noqa: E402
+import rules  # noqa: E402
 from jobs import some_file  # noqa: E402
 from kelvrist import jobfile, jobtext, listing  # noqa: E402
 from kelvrist.walk import walk  # noqa: E402
 from vectors.dice import Dice  # noqa: E402
 
 EXAMPLES = TOP / "examples"
-NAMES = ["a", "cube16", "forkjoin", "greatest", "postponed", "ring"]
+NAMES = ["a", "cube16", "forkjoin", "greatest", "postponed", "ring", "wires"]
 PICTURE = "forkjoin"  # the example that docs/plan.svg shows
 FILES = 300
 SVG = "{http://www.w3.org/2000/svg}"
 
 # Each rule of a text once: the text, the line and the message.
 RACK, TWO = "rack 2 flat 2\n", "rack 2 flat 2\nstep 5\nstep 5\n"
+OWN, WIRED = "rack 2 wires 0\n", "rack 2 wires 0\nwire 0 1 7\nwire 1 0 9\n"
 BAD_TEXTS = [
     ("", 1, "a rack must come before the end of the text"),
     ("# nothing\n\n", 2, "a rack must come before the end of the text"),
@@ -39,9 +40,9 @@ BAD_TEXTS = [
     (RACK + "link 0 1 1\n", 2, "a step must come before the link"),
     (RACK + RACK, 2, "there is a rack already"),
     (TWO + "link 0 1 1\nstep 5\n", 5, "steps come before links"),
-    (RACK + "stpe 5\n", 2, "'stpe': a line begins with rack, step or link"),
-    (TWO + "end\n", 4, "'end': a line begins with rack, step or link"),
-    ("\x1b[2J\n", 1, "'\\x1b[2J': a line begins with rack, step or link"),
+    (RACK + "stpe 5\n", 2, "'stpe': a line begins with rack, wire, step or link"),
+    (TWO + "end\n", 4, "'end': a line begins with rack, wire, step or link"),
+    ("\x1b[2J\n", 1, "'\\x1b[2J': a line begins with rack, wire, step or link"),
     ("rack 2 flat\n", 1, "rack: 3 words must follow (boards, wiring, cost), not 2"),
     ("rack 2 flat 2 2\n", 1, "rack: 3 words must follow (boards, wiring, cost), not 4"),
     (RACK + "step # 5\n", 2, "step: 1 word must follow (duration), not 0"),
@@ -55,8 +56,8 @@ BAD_TEXTS = [
     (RACK + "step " + "9" * 5000, 2, "duration '999999999999999999999999..' is too great"),
     ("rack 0 flat 2\n", 1, "boards 0 is not 1 to 16"),
     ("rack 17 flat 2\n", 1, "boards 17 is not 1 to 16"),
-    ("rack 2 star 2\n", 1, "wiring 'star' is not flat, cube or ring"),
-    ("rack 2 0 2\n", 1, "wiring '0' is not flat, cube or ring"),
+    ("rack 2 star 2\n", 1, "wiring 'star' is not flat, cube, ring or wires"),
+    ("rack 2 0 2\n", 1, "wiring '0' is not flat, cube, ring or wires"),
     ("rack 2 flat 101\n", 1, "cost 101 is not 0 to 100"),
     (RACK + "step 0\n", 2, "duration 0 is not 1 to 1000000"),
     (RACK + "step 1000001\n", 2, "duration 1000001 is not 1 to 1000000"),
@@ -70,10 +71,36 @@ BAD_TEXTS = [
     (TWO + "link 0 300 1\n", 4, "link 0 to 300: the last step is 1"),
     (TWO + "step 5\nlink 0 2 1\nlink 0 1 1\n", 6, "link 0 to 1: links rise by from, then by to, and the one before is 0 to 2"),
     (TWO + "link 0 1 1\nlink 0 1 1\n", 5, "link 0 to 1: links rise by from, then by to, and the one before is 0 to 1"),
+    ("wire 0 1 7\n", 1, "a rack must come before the wire"),
+    ("rack 2 cube 2\nwire 0 1 7\n", 2, "a wire needs a rack of wiring wires, and this one's is cube"),
+    (TWO + "wire 0 1 7\n", 4, "a wire needs a rack of wiring wires, and this one's is flat"),
+    (WIRED + "step 5\nwire 0 1 7\n", 5, "wires come before steps"),
+    (WIRED + "step 5\nstep 5\nlink 0 1 1\nwire 0 1 7\n", 7, "wires come before steps"),
+    (OWN, 1, "wire 0 to 1 must come before the end of the text"),
+    (OWN + "wire 0 1 7\n", 2, "wire 1 to 0 must come before the end of the text"),
+    (OWN + "link 0 1 1\n", 2, "wire 0 to 1 must come before the link"),
+    (WIRED, 3, "a step must come before the end of the text"),
+    (WIRED + "link 0 1 1\n", 4, "a step must come before the link"),
+    (WIRED + OWN, 4, "there is a rack already"),
+    (OWN + "wire 0 1\n", 2, "wire: 3 words must follow (from, to, cost), not 2"),
+    (OWN + "wire 0 1 7 7\n", 2, "wire: 3 words must follow (from, to, cost), not 4"),
+    (OWN + "wire 0 one 7\n", 2, "to 'one' is not a whole number (digits alone)"),
+    (OWN + "wire 0 1 251\n", 2, "cost 251 is not 0 to 250"),
+    (OWN + "wire 1 0 251\n", 2, "cost 251 is not 0 to 250"),
+    (OWN + "wire 1 0 7\n", 2, "wire 1 to 0: wires rise by from, then by to, and the next is 0 to 1"),
+    (OWN + "wire 0 0 7\n", 2, "wire 0 to 0: wires rise by from, then by to, and the next is 0 to 1"),
+    (OWN + "wire 0 1 7\nwire 0 1 7\n", 3, "wire 0 to 1: wires rise by from, then by to, and the next is 1 to 0"),
+    (OWN + "wire 0 300 7\n", 2, "wire 0 to 300: wires rise by from, then by to, and the next is 0 to 1"),
+    (WIRED + "wire 1 2 7\n", 4, "wire 1 to 2: all 2 wires are there already"),
+    ("rack 1 wires 0\nwire 0 1 7\n", 2, "wire 0 to 1: a rack of one board has no wires"),
+    (OWN + "step 5\n", 2, "wire 0 to 1 must come before the first step"),
+    (OWN + "wire 0 1 7\nstep 5\n", 3, "wire 1 to 0 must come before the first step"),
+    (OWN + "step 0\n", 2, "duration 0 is not 1 to 1000000"),
+    ("rack 2 wires 101\n", 1, "cost 101 is not 0 to 100"),
 ]
 
 # The refusals of a job file: its bytes, and the end of the line that `tools/job show` gives.
-A = (EXAMPLES / "a.job").read_bytes()
+A, W = (EXAMPLES / "a.job").read_bytes(), (EXAMPLES / "wires.job").read_bytes()
 BAD_FILES = [
     (b"", 1, 0, "a record is due"),
     (A[:20], 1, 19, "the link is cut"),
@@ -84,6 +111,14 @@ BAD_FILES = [
     (A[:9] + b"\x03\x00\x00\x01\x00", 6, 9, "link 0 to 0: from must be below to"),
     (A[:24] + A[19:], 7, 24, "link 0 to 2: links rise by from, then by to, and the one before is 0 to 2"),
     (A + b"\x00", 8, 30, "the end record should be the last byte, 1 more follow"),
+    (W[:6], 1, 4, "the wire is cut"),
+    (A[:4] + W[4:8], 3, 4, "a wire needs a rack of wiring wires, and this one's is flat"),
+    (W[:33] + W[4:8], 3, 33, "wires come before steps"),
+    (W[:8] + b"\x04", 3, 8, "wire 0 to 2 must come before the end"),
+    (W[:4] + b"\x05\x01\x00\xfb", 4, 4, "cost 251 is not 0 to 250"),
+    (W[:4] + W[8:], 14, 4, "wire 0 to 2: wires rise by from, then by to, and the next is 0 to 1"),
+    (W[:28] + b"\x05\x03\x00\x01", 14, 28, "wire 3 to 0: all 6 wires are there already"),
+    (W[:24] + W[28:], 14, 24, "wire 2 to 1 must come before the first step"),
 ]
 
 
@@ -113,7 +148,7 @@ def hold_example(name):
     data = job.read_bytes()
     hold(f"the job of {name}.txt", jobtext.make(text.read_text()), data)
     hold(f"the text of {name}.job, made again", jobtext.make(jobtext.show(data)), data)
-    hold(f"the plan of {name}.job by the reference", etf.report(data), plan.read_text())
+    hold(f"the plan of {name}.job by the reference", rules.report(data), plan.read_text())
     chart, said, status = run("gantt", job, data=plan.read_bytes())
     hold(f"the chart of {name}", (said, status), ("", 0))
     boxes = [box for box in Xml.fromstring(chart).iter(f"{SVG}rect") if box.find(f"{SVG}title") is not None]
@@ -145,7 +180,7 @@ def hold_files():
             raise Differs(f"the file {data[:40].hex()} is taken")
     for number in range(FILES):
         data = some_file(Dice(number))
-        hold(f"random file {number}", *(answer(module, data) for module in (jobfile, etf)))
+        hold(f"random file {number}", *(answer(module, data) for module in (jobfile, rules)))
 
 
 def answer(module, data):
@@ -162,8 +197,8 @@ def hold_walks():
     walked = 0
     for number in range(FILES):
         data = some_file(Dice(number))
-        if answer(etf, data) == 0 and len(data) < 400:
-            plan = listing.read(etf.report(data).encode())
+        if answer(rules, data) == 0 and len(data) < 400:
+            plan = listing.read(rules.report(data).encode())
             hold(f"the walk's sum in random file {number}", sum(move.time for move in walk(jobfile.read(data), plan.steps)), plan.cover)
             walked += 1
     return walked

@@ -7,18 +7,19 @@
 
 #include "kelvrist.h"
 
-enum { FLAT = 0, CUBE = 1, RING = 2 };
+enum { FLAT = 0, CUBE = 1, RING = 2, WIRES = 3 };
 
 /* Room for a job's bytes, also of a job with a record too many, and for a plan's. */
 enum { FILE_ROOM = KELVRIST_JOB_BYTES + 64, PLAN_ROOM = KELVRIST_PLAN_BYTES + 64 };
 
-/* A job held as numbers, good or bad. */
+/* A job held as numbers, good or bad. With WIRES, costs[p][q] is that of the wire from p to q. */
 struct edge {
     uint32_t from, to, count;
 };
 
 struct job {
     uint32_t processors, wiring, unit;
+    uint32_t costs[KELVRIST_PROCESSORS][KELVRIST_PROCESSORS];
     size_t tasks, edges;
     uint32_t durations[KELVRIST_TASKS];
     struct edge edge[KELVRIST_EDGES];
@@ -43,6 +44,7 @@ extern unsigned long calls;
 
 /* jobs.c: jobs as bytes and plans as numbers. */
 void put_rack(struct file *file, uint32_t processors, uint32_t wiring, uint32_t unit);
+void put_wire(struct file *file, uint32_t from, uint32_t to, uint32_t cost);
 void put_step(struct file *file, uint32_t duration);
 void put_link(struct file *file, struct edge edge);
 void put_end(struct file *file);
@@ -52,7 +54,7 @@ void place(struct plan *plan, size_t task, uint32_t processor, uint32_t start);
 uint32_t processor_in(const struct plan *plan, size_t task);
 uint32_t start_in(const struct plan *plan, size_t task);
 
-/* judge.c: whether a plan is good for a job, by document 01 and without the library. */
+/* judge.c: whether a plan is good for a job, by the documents and without the library. */
 uint32_t judge(const struct job *job, const struct plan *plan);
 
 /* guarded.c: the two calls, with guard bytes around what is lent. */
@@ -63,6 +65,7 @@ void want_check(const struct file *file, const struct plan *plan, uint32_t answe
 
 /* The groups. */
 void worked_cases(void);
+void costs_by_wires(void);
 void larger_jobs(void);
 void plans_handed_in(void);
 void order_of_refusals(void);

@@ -23,6 +23,14 @@ void put_rack(struct file *file, uint32_t processors, uint32_t wiring, uint32_t 
     put_byte(file, unit);
 }
 
+void put_wire(struct file *file, uint32_t from, uint32_t to, uint32_t cost)
+{
+    put_byte(file, 5);
+    put_byte(file, from);
+    put_byte(file, to);
+    put_byte(file, cost);
+}
+
 void put_step(struct file *file, uint32_t duration)
 {
     put_byte(file, 2);
@@ -47,6 +55,10 @@ struct file file_of(const struct job *job)
     struct file file = {0};
 
     put_rack(&file, job->processors, job->wiring, job->unit);
+    for (uint32_t p = 0; job->wiring == WIRES && p < job->processors; p++)
+        for (uint32_t q = 0; q < job->processors; q++)
+            if (p != q)
+                put_wire(&file, p, q, job->costs[p][q]);
     for (size_t t = 0; t < job->tasks; t++)
         put_step(&file, job->durations[t]);
     for (size_t e = 0; e < job->edges; e++)

@@ -1,10 +1,8 @@
-/* Judges a plan by document 01 ("The checker", "Link costs"), without the library. */
+/* Judges a plan by document 01 ("The checker", "Link costs") and document 02 §1, without the library. */
 #include "host.h"
 
 static uint64_t hops(const struct job *job, uint32_t p, uint32_t q)
 {
-    if (p == q)
-        return 0;
     if (job->wiring == FLAT)
         return 1;
     if (job->wiring == CUBE) {
@@ -15,6 +13,13 @@ static uint64_t hops(const struct job *job, uint32_t p, uint32_t q)
     }
     uint32_t d = p < q ? q - p : p - q;
     return d < job->processors - d ? d : job->processors - d;
+}
+
+static uint64_t cost(const struct job *job, uint32_t p, uint32_t q)
+{
+    if (p == q)
+        return 0;
+    return job->wiring == WIRES ? job->costs[p][q] : job->unit * hops(job, p, q);
 }
 
 static uint64_t finish(const struct job *job, const struct plan *plan, size_t task)
@@ -31,9 +36,9 @@ static int overlap(const struct job *job, const struct plan *plan, size_t a, siz
 
 static int early(const struct job *job, const struct plan *plan, struct edge edge)
 {
-    uint64_t way = hops(job, processor_in(plan, edge.from), processor_in(plan, edge.to));
+    uint64_t way = cost(job, processor_in(plan, edge.from), processor_in(plan, edge.to));
 
-    return start_in(plan, edge.to) < finish(job, plan, edge.from) + edge.count * job->unit * way;
+    return start_in(plan, edge.to) < finish(job, plan, edge.from) + edge.count * way;
 }
 
 uint32_t judge(const struct job *job, const struct plan *plan)

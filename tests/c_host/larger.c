@@ -1,5 +1,5 @@
-/* Larger jobs: each shape with each wiring, on 1, 5 and 16 processors, with three unit costs. The host's own judge
- * judges their plans; where the placements can be told beforehand, they are held to that. */
+/* Larger jobs: each shape with each wiring, on 1, 5 and 16 processors, with three unit costs, or wires that are as dear. The
+ * host's own judge judges their plans; where the placements can be told beforehand, they are held to that. */
 #include "host.h"
 
 static uint32_t state;
@@ -110,6 +110,16 @@ static void without_gap(const struct job *job, const struct plan *plan)
         fail("the plan ends at %u where %u is due", end, sum);
 }
 
+/* A cost for each wire, there and back. The unit cost is not used with wires; here it says how dear they are. */
+static void draw_costs(struct job *job)
+{
+    uint32_t most = job->unit == 0 ? 1 : job->unit == 2 ? 5 : 251;
+
+    for (uint32_t p = 0; p < job->processors; p++)
+        for (uint32_t q = 0; q < job->processors; q++)
+            job->costs[p][q] = draw(most) - 1;
+}
+
 static void one_job(const struct shape *shape, uint32_t processors, uint32_t wiring, uint32_t unit)
 {
     struct job job = {.processors = processors, .wiring = wiring, .unit = unit};
@@ -119,6 +129,8 @@ static void one_job(const struct shape *shape, uint32_t processors, uint32_t wir
     shape->make(&job);
     for (size_t t = 0; t < job.tasks; t++)
         job.durations[t] = draw(unit == 0 ? 5 : 1000000);
+    if (wiring == WIRES)
+        draw_costs(&job);
     struct plan plan = planned(&job);
     if (processors == 1)
         without_gap(&job, &plan);
@@ -147,7 +159,7 @@ void larger_jobs(void)
 
     for (size_t s = 0; s < sizeof shapes / sizeof shapes[0]; s++)
         for (size_t n = 0; n < 3; n++)
-            for (uint32_t wiring = FLAT; wiring <= RING; wiring++)
+            for (uint32_t wiring = FLAT; wiring <= WIRES; wiring++)
                 for (size_t c = 0; c < 3; c++)
                     one_job(&shapes[s], processors[n], wiring, units[c]);
     for (size_t n = 0; n < 3; n++)

@@ -1,4 +1,4 @@
-/* The C host: calls the planner and the checker as the station controller does, from C, on the cases of document 01.
+/* The C host: calls the planner and the checker as the station controller does, from C, on the documents' cases and others.
  * Each group runs with two fill bytes, so that a byte written where none is due cannot look like what was there. */
 #include <stdarg.h>
 #include <stdio.h>
@@ -11,6 +11,7 @@ static const struct group {
     void (*run)(void);
 } groups[] = {
     {"worked cases", worked_cases},
+    {"costs by wires", costs_by_wires},
     {"larger jobs", larger_jobs},
     {"plans handed in", plans_handed_in},
     {"order of refusals", order_of_refusals},

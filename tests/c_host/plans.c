@@ -13,6 +13,9 @@ static const struct job on_ring = {
     .processors = 5, .wiring = RING, .unit = 2, .tasks = 2, .durations = {5, 5}, .edges = 1, .edge = {{0, 1, 3}}};
 static const struct job on_cube = {
     .processors = 16, .wiring = CUBE, .unit = 2, .tasks = 2, .durations = {5, 5}, .edges = 1, .edge = {{0, 1, 3}}};
+static const struct job on_wires = {
+    .processors = 3, .wiring = WIRES, .unit = 100, .costs = {{0, 2, 9}, {7, 0, 0}, {1, 250, 0}}, .tasks = 2,
+    .durations = {5, 5}, .edges = 1, .edge = {{0, 1, 3}}};
 static const struct job longest = {
     .processors = 2, .wiring = FLAT, .unit = 100, .tasks = 2, .durations = {1000000, 1000000}, .edges = 1,
     .edge = {{0, 1, 1000}}};
@@ -61,6 +64,20 @@ static const struct handed_in plans[] = {
     {"ring of 5, from 4 to 1", &on_ring, {{4, 0}, {1, 17}}, 0},
     {"cube, from 5 to 10, late", &on_cube, {{5, 0}, {10, 28}}, 13},
     {"cube, from 5 to 10", &on_cube, {{5, 0}, {10, 29}}, 0},
+    {"wires, from 0 to 1, late", &on_wires, {{0, 0}, {1, 10}}, 13},
+    {"wires, from 0 to 1", &on_wires, {{0, 0}, {1, 11}}, 0},
+    {"wires, from 1 to 0, late", &on_wires, {{1, 0}, {0, 25}}, 13},
+    {"wires, from 1 to 0", &on_wires, {{1, 0}, {0, 26}}, 0},
+    {"wires, from 0 to 2, late", &on_wires, {{0, 0}, {2, 31}}, 13},
+    {"wires, from 0 to 2", &on_wires, {{0, 0}, {2, 32}}, 0},
+    {"wires, from 2 to 0, late", &on_wires, {{2, 0}, {0, 7}}, 13},
+    {"wires, from 2 to 0", &on_wires, {{2, 0}, {0, 8}}, 0},
+    {"wires, from 1 to 2, late", &on_wires, {{1, 0}, {2, 4}}, 13},
+    {"wires, from 1 to 2, at no cost", &on_wires, {{1, 0}, {2, 5}}, 0},
+    {"wires, from 2 to 1, late", &on_wires, {{2, 0}, {1, 754}}, 13},
+    {"wires, from 2 to 1", &on_wires, {{2, 0}, {1, 755}}, 0},
+    {"wires, on one processor", &on_wires, {{2, 0}, {2, 5}}, 0},
+    {"wires, processor 3 of 3", &on_wires, {{2, 0}, {3, 5}}, 10},
     {"the longest way, late", &longest, {{0, 0}, {1, 1099999}}, 13},
     {"the longest way", &longest, {{0, 0}, {1, 1100000}}, 0},
     {"sent after the latest start", &longest, {{0, 600000000}, {1, 600000000}}, 13},

@@ -3,7 +3,7 @@
 
 #include "host.h"
 
-/* Document 01's small inputs, and places where two refusals meet. The bytes are hexadecimal. */
+/* The documents' small inputs, and places where two refusals meet. The bytes are hexadecimal. */
 static const struct {
     const char *what;
     const char *bytes;
@@ -17,7 +17,7 @@ static const struct {
     {"no end record", "01 02 00 02 02 05 00 00 00", 1},
     {"kind 9", "09", 2},
     {"kind 0", "00", 2},
-    {"kind 5 after a step", "01 02 00 02 02 05 00 00 00 05", 2},
+    {"kind 8 after a step", "01 02 00 02 02 05 00 00 00 08", 2},
     {"a step first", "02 01 00 00 00", 3},
     {"the end first", "04", 3},
     {"a rack again", "01 02 00 02 01 02 00 02", 3},
@@ -25,7 +25,7 @@ static const struct {
     {"the end with no step", "01 02 00 02 04", 3},
     {"a step after a link", "01 02 00 02 02 05 00 00 00 02 05 00 00 00 03 00 01 01 00 02 05 00 00 00 04", 3},
     {"no processors", "01 00 00 05", 4},
-    {"wiring 3", "01 02 03 05", 4},
+    {"wiring 4", "01 02 04 05", 4},
     {"from 0 to 0", "01 02 00 02 02 05 00 00 00 03 00 00 01 00", 6},
     {"to is no task", "01 02 00 02 02 05 00 00 00 03 00 01 01 00", 6},
     {"from above to", "01 02 00 02 02 05 00 00 00 02 05 00 00 00 03 01 00 01 00", 6},
@@ -39,6 +39,34 @@ static const struct {
     {"6 before 7",
      "01 02 00 02 02 05 00 00 00 02 05 00 00 00 02 05 00 00 00 03 01 02 01 00 03 01 01 01 00", 6},
     {"the first trouble", "01 11 00 02 09", 4},
+    {"a rack that waits for wires", "01 02 03 02", 1},
+    {"a wire that is cut", "01 02 03 02 05 00 01", 1},
+    {"a wire first", "05 00 01 07", 3},
+    {"a wire with wiring 0", "01 02 00 02 05 00 01 07", 3},
+    {"a wire with wiring 1", "01 02 01 02 05 00 01 07", 3},
+    {"a wire with wiring 2", "01 02 02 02 05 00 01 07", 3},
+    {"a wire after a step", "01 02 03 02 05 00 01 07 05 01 00 09 02 05 00 00 00 05 01 00 09", 3},
+    {"a wire after a link",
+     "01 02 03 02 05 00 01 07 05 01 00 09 02 05 00 00 00 02 05 00 00 00 03 00 01 01 00 05 01 00 09", 3},
+    {"the end before the wires", "01 02 03 02 04", 3},
+    {"a link between wires", "01 02 03 02 05 00 01 07 03 00 01 01 00", 3},
+    {"a rack between wires", "01 02 03 02 05 00 01 07 01 02 03 02", 3},
+    {"a wire of cost 251", "01 02 03 02 05 00 01 fb", 4},
+    {"unit cost 101 with wires", "01 02 03 65", 4},
+    {"a step before the wires", "01 02 03 02 02 05 00 00 00", 14},
+    {"a step between wires", "01 02 03 02 05 00 01 07 02 05 00 00 00 05 01 00 09 04", 14},
+    {"the second wire first", "01 02 03 02 05 01 00 09", 14},
+    {"a wire twice", "01 02 03 02 05 00 01 07 05 00 01 07", 14},
+    {"a wire from 0 to 0", "01 02 03 02 05 00 00 07", 14},
+    {"a wire to no processor", "01 02 03 02 05 00 01 07 05 02 00 07", 14},
+    {"a wire past the last", "01 02 03 02 05 00 01 07 05 01 00 09 05 01 00 09", 14},
+    {"a wire of one processor", "01 01 03 02 05 00 01 07", 14},
+    {"3 before 1, a wire", "01 02 00 02 05", 3},
+    {"1 before 14, a wire", "01 02 03 02 05 01 00", 1},
+    {"1 before 14, a step", "01 02 03 02 02 05 00 00", 1},
+    {"4 before 14, a wire", "01 02 03 02 05 01 00 fb", 4},
+    {"4 before 14, a step", "01 02 03 02 02 00 00 00 00", 4},
+    {"a byte after the end, with wires", "01 02 03 02 05 00 01 07 05 01 00 09 02 05 00 00 00 04 05", 8},
 };
 
 static int digit(char c)
@@ -72,16 +100,36 @@ static void want_refused(const struct file *file, uint32_t answer)
     }
 }
 
+static void put_many(struct file *file, size_t tasks, size_t edges)
+{
+    for (size_t t = 0; t < tasks; t++)
+        put_step(file, 5);
+    for (uint32_t from = 0; from < 256; from++)
+        for (uint32_t to = from + 1; to < 256 && edges > 0; to++, edges--)
+            put_link(file, (struct edge){from, to, 1});
+}
+
 static struct file many(size_t tasks, size_t edges)
 {
     struct file file = {0};
 
     put_rack(&file, 2, FLAT, 2);
-    for (size_t t = 0; t < tasks; t++)
-        put_step(&file, 5);
-    for (uint32_t from = 0; from < 256; from++)
-        for (uint32_t to = from + 1; to < 256 && edges > 0; to++, edges--)
-            put_link(&file, (struct edge){from, to, 1});
+    put_many(&file, tasks, edges);
+    return file;
+}
+
+/* The greatest job. */
+static struct file greatest(void)
+{
+    struct file file = {0};
+
+    put_rack(&file, 16, WIRES, 100);
+    for (uint32_t p = 0; p < 16; p++)
+        for (uint32_t q = 0; q < 16; q++)
+            if (p != q)
+                put_wire(&file, p, q, 250 - p);
+    put_many(&file, 256, 1024);
+    put_end(&file);
     return file;
 }
 
@@ -102,9 +150,14 @@ void refused_jobs(void)
     file = many(256, 1024);
     put_byte(&file, 3);
     want_refused(&file, 5);
+    testing("the greatest job");
+    file = greatest();
+    struct plan plan = {.length = KELVRIST_PLAN_BYTES};
+    if (file.length != KELVRIST_JOB_BYTES)
+        fail("it has %zu bytes", file.length);
+    want_plan(&file, 256, &plan, 0);
+    want_check(&file, &plan, 0);
     testing("a byte after the greatest job");
-    file = many(256, 1024);
-    put_end(&file);
     put_byte(&file, 4);
     want_refused(&file, 8);
 }
@@ -118,7 +171,12 @@ static const struct {
     {16, FLAT, 2, 5, 1, 0},
     {17, FLAT, 2, 5, 1, 4},
     {2, RING, 2, 5, 1, 0},
-    {2, 3, 2, 5, 1, 4},
+    {2, WIRES, 2, 5, 1, 0},
+    {2, 4, 2, 5, 1, 4},
+    {1, WIRES, 2, 5, 1, 0},
+    {16, WIRES, 2, 5, 1, 0},
+    {2, WIRES, 100, 5, 1, 0},
+    {2, WIRES, 101, 5, 1, 4},
     {2, FLAT, 0, 5, 1, 0},
     {2, FLAT, 100, 5, 1, 0},
     {2, FLAT, 101, 5, 1, 4},
@@ -130,6 +188,21 @@ static const struct {
     {2, FLAT, 2, 5, 1000, 0},
     {2, FLAT, 2, 5, 1001, 4},
 };
+
+/* A wire's cost, there or back. */
+static void ends_of_costs(void)
+{
+    for (uint32_t cost = 249; cost <= 255; cost++)
+        for (uint32_t p = 0; p < 2; p++) {
+            struct job job = {.processors = 2, .wiring = WIRES, .tasks = 1, .durations = {5}};
+            job.costs[p][1 - p] = cost;
+            struct file file = file_of(&job);
+            struct plan plan = {.length = 5};
+            testing("a wire of cost %u from processor %u", cost, p);
+            want_plan(&file, 1, &plan, cost <= 250 ? 0 : 4);
+            want_check(&file, &plan, cost <= 250 ? 0 : 4);
+        }
+}
 
 void ends_of_ranges(void)
 {
@@ -144,6 +217,7 @@ void ends_of_ranges(void)
         want_plan(&file, 2, &plan, ends[i].answer);
         want_check(&file, &plan, ends[i].answer);
     }
+    ends_of_costs();
 }
 
 /* Buffers of fewer, as many and more bytes than a plan has. */

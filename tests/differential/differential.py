@@ -1,6 +1,6 @@
 #!/usr/bin/env python3
-"""Holds the two calls of libkelvrist.a and the cover call of libtiming.a to the reference planner, tests/reference/etf.py, on
-random jobs and plans; the cover call also on the files among the cases of crate vectors.
+"""Holds the two calls of libkelvrist.a and the cover call of libtiming.a to the reference, tests/rules.py, on random jobs and
+plans; the cover call also on the files among the cases of crate vectors.
 
     differential.py [seed=N] [jobs=N] [only=N] [library=FILE] [timing=FILE]
 
@@ -15,10 +15,10 @@ from collections import Counter
 from pathlib import Path
 
 TOP = Path(__file__).resolve().parent.parent.parent
-sys.path[:0] = [str(TOP / "tests"), str(TOP / "tests" / "reference")]
+sys.path.insert(0, str(TOP / "tests"))
 sys.dont_write_bytecode = True
-import etf  # noqa: E402
 import library  # noqa: E402
+import rules  # noqa: E402
 from jobs import some_file  # noqa: E402
 from vectors.dice import Dice  # noqa: E402
 from vectors.plans import as_bytes, as_plan, handed_in  # noqa: E402
@@ -44,14 +44,14 @@ class File:
     def __init__(self, data):
         self.data, self.refusal, self.job, self.plan, self.covered = data, 0, None, [], []
         try:
-            self.job = etf.read(data)
-        except etf.Refused as refused:
+            self.job = rules.read(data)
+        except rules.Refused as refused:
             self.refusal = refused.number
             return
-        planned = etf.plan(self.job)
+        planned = rules.plan(self.job)
         self.plan = list(zip(planned.board, planned.start))
         self.covered = [as_words(planned.start), bytes(planned.board), as_words(planned.arrival),
-                        as_words([etf.cover(self.job, planned), etf.dearest(self.job)])]
+                        as_words([rules.cover(self.job, planned), rules.dearest(self.job)])]
 
     def answer(self, room):
         """The answer as far as the job and the plan's length go."""
@@ -92,7 +92,7 @@ class Held:
         due = file.answer(len(handed))
         if due == 0:
             plan = as_plan(handed, len(file.plan))
-            due = etf.check(file.job, [p for p, _ in plan], [start for _, start in plan])
+            due = rules.check(file.job, [p for p, _ in plan], [start for _, start in plan])
         answer = self.schedule.check(file.data, handed, fill)
         if answer != due:
             raise Differs(f"kelvrist_check of the plan [{handed.hex()}] returns {answer}, the reference says {due}")
@@ -108,7 +108,7 @@ class Held:
             left = front + bytes([fill]) * (len(now) - len(front))
             if now != left:
                 at = next(at for at in range(0, len(now), width) if now[at : at + width] != left[at : at + width])
-                found, told = (etf.number(data[at : at + width]) for data in (now, left))
+                found, told = (rules.number(data[at : at + width]) for data in (now, left))
                 raise Differs(f"timing_cover with {rooms} places returns {answer} and leaves {found} at place {at // width} of the {name}, "
                               f"the reference says {told}")
         self.cover_answers[answer] += 1
@@ -134,7 +134,7 @@ def case_files(cases):
     at = 0
     while at < len(cases):
         body = at + 3
-        end = body + etf.number(cases[at + 1 : body])
+        end = body + rules.number(cases[at + 1 : body])
         if cases[at] == ord("r"):
             yield cases[body:end]
         at = end
@@ -152,7 +152,7 @@ def told(words):
 
 
 def tally(answers):
-    return ", ".join(f"{a}: {answers[a]}" for a in range(14) if answers[a])
+    return ", ".join(f"{a}: {answers[a]}" for a in sorted(answers))
 
 
 def calls(kind, name, given):

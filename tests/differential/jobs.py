@@ -1,7 +1,7 @@
 """Random jobs of many shapes, and damaged ones. Small numbers make ties likely."""
-import etf
-from vectors.jobs import MOST_EDGES, MOST_TASKS, SHAPES, numbers
-from vectors.records import END, damaged, link, rack, step
+import rules
+from vectors.jobs import MOST_EDGES, MOST_TASKS, SHAPES, costs, numbers
+from vectors.records import END, damaged, link, rack, step, wire
 
 
 # ---- jobs
@@ -21,8 +21,11 @@ def some_job(dice):
     n = dice.one_of([1, 2, 3, 16, dice.between(2, 6), dice.between(1, 16)])
     unit = dice.one_of([0, 1, 2, dice.between(1, 9), 100, dice.between(0, 100)])
     counts = numbers(dice, 1000, len(pairs))
-    return etf.Job(n, dice.below(3), unit, numbers(dice, 1_000_000, m),
-                   [(a, b, count) for (a, b), count in zip(pairs, counts)])
+    durations, links = numbers(dice, 1_000_000, m), [(a, b, count) for (a, b), count in zip(pairs, counts)]
+    wiring = dice.one_of([0, 1, 2, 3, 3])
+    if wiring == 3:
+        return rules.wired(n, costs(dice, n), durations, links, unit)
+    return rules.job(n, wiring, unit, durations, links)
 
 
 # ---- damaged files
@@ -37,13 +40,17 @@ def too_many(dice):
 
 
 def any_records(dice):
-    """A rack and records as they come, now and then with a value out of range; the last is often cut."""
-    rows = [rack(dice.one_of([0, 1, 2, 2, 2, 16, 17]), dice.one_of([0, 0, 1, 2, 3]), dice.one_of([0, 2, 2, 100, 101]))]
+    """A rack, often with wires, and records as they come, now and then with a value out of range; the last is often cut."""
+    rows = [rack(dice.one_of([0, 1, 2, 2, 2, 16, 17]), dice.one_of([0, 0, 1, 2, 3, 4]), dice.one_of([0, 2, 2, 100, 101]))]
+    if dice.below(2):
+        n = dice.between(1, 3)
+        pairs = rules.pairs_due(n)
+        rows = [rack(n, 3), *(wire(p, q, dice.below(251)) for p, q in pairs[: dice.one_of([len(pairs), len(pairs), dice.below(7)])])]
     for _ in range(dice.below(7)):
         rows.append(dice.one_of([
             step(), step(), step(dice.one_of([0, 1, 1_000_000, 1_000_001])),
             link(dice.below(3), dice.between(1, 4)), link(dice.below(4), dice.below(4), dice.one_of([0, 1, 1000, 1001])),
-            END, rack(), bytes([dice.one_of([0, 5, 255])]),
+            END, rack(), bytes([dice.one_of([0, 5, 8, 255])]), wire(dice.below(3), dice.below(3), dice.one_of([0, 250, 251])),
         ]))
     data = b"".join(rows)
     return data[: len(data) - dice.below(5)]
@@ -51,7 +58,8 @@ def any_records(dice):
 
 def noise(dice):
     """Random bytes, often small, after nothing or the head of a job."""
-    head = dice.one_of([b"", rack(), rack() + step(), rack() + step() * 2, rack() + step() * 2 + link(0, 1)])
+    head = dice.one_of([b"", rack(), rack() + step(), rack() + step() * 2, rack() + step() * 2 + link(0, 1), rack(2, 3),
+                        rack(2, 3) + wire(0, 1), rack(2, 3) + wire(0, 1) + wire(1, 0), rack(1, 3)])
     return head + bytes(dice.below(dice.one_of([6, 256])) for _ in range(dice.below(24)))
 
 
@@ -73,7 +81,7 @@ def bytes_damaged(dice, data):
 def some_file(dice):
     turn = dice.below(100)
     if turn < 64:
-        return etf.write(some_job(dice))
+        return rules.write(some_job(dice))
     if turn < 66:
         return too_many(dice)
     if turn < 70:
@@ -82,4 +90,4 @@ def some_file(dice):
         return any_records(dice)
     if turn < 92:
         return damaged(dice, some_job(dice))
-    return bytes_damaged(dice, etf.write(some_job(dice)))
+    return bytes_damaged(dice, rules.write(some_job(dice)))

@@ -1,6 +1,5 @@
 #!/usr/bin/env python3
-"""Holds program `plan` to the reference planner, tests/reference/etf.py: byte for byte what it prints, nothing on standard error,
-exit status 0.
+"""Holds program `plan` to the reference, tests/rules.py: byte for byte what it prints, nothing on standard error, exit status 0.
 
     program.py [seed=N] [jobs=N] [only=N] [program=FILE]
 
@@ -23,14 +22,14 @@ from collections import Counter
 from pathlib import Path
 
 TOP = Path(__file__).resolve().parent.parent.parent
-sys.path[:0] = [str(TOP / "tests"), str(TOP / "tests" / "reference")]
+sys.path.insert(0, str(TOP / "tests"))
 sys.dont_write_bytecode = True
-import etf  # noqa: E402
+import rules  # noqa: E402
 from differential import STDIN, case_files  # noqa: E402
 from jobs import some_file  # noqa: E402
 from vectors.dice import Dice  # noqa: E402
-from vectors.jobs import LONGEST, chain, greatest, greatest_values  # noqa: E402
-from vectors.records import END, link, rack, step  # noqa: E402
+from vectors.jobs import LONGEST, chain, greatest, greatest_values, greatest_wired, greatest_wired_values  # noqa: E402
+from vectors.records import END, link, rack, step, wire  # noqa: E402
 
 PROGRAM = TOP / "target" / "bin" / "plan"
 FOLDER = TOP / "target" / "program"
@@ -93,31 +92,34 @@ WAYS = [from_file, through_pipe, in_pieces]
 
 def worked():
     """The worked cases of document 01, as jobs."""
-    yield "case A", etf.Job(2, 0, 2, [4, 3, 2], [(0, 2, 1), (1, 2, 3)])
-    yield "case B", etf.Job(1, 0, 0, [1], [])
+    yield "case A", rules.job(2, 0, 2, [4, 3, 2], [(0, 2, 1), (1, 2, 3)])
+    yield "case B", rules.job(1, 0, 0, [1], [])
     for name, unit in (("D", 1), ("E", 2), ("G", 3), ("H", 5)):
-        yield f"case {name}", etf.Job(2, 0, unit, [3, 2, 2], [(0, 1, 1), (0, 2, 1)])
+        yield f"case {name}", rules.job(2, 0, unit, [3, 2, 2], [(0, 1, 1), (0, 2, 1)])
     for name, wiring, n, p, q in (("J", 1, 16, 5, 10), ("K", 2, 5, 0, 4), ("L", 2, 6, 0, 3)):
         # The last step runs on board q after messages from board p: all other boards are busy.
         durations = [4 if t == p else 5 if t == q else 100 for t in range(n + 2)]
-        yield f"case {name}", etf.Job(n, wiring, 1, durations, [(p, n + 1, 3)])
+        yield f"case {name}", rules.job(n, wiring, 1, durations, [(p, n + 1, 3)])
 
 
 def large():
     """The greatest jobs and the greatest numbers."""
-    yield "the greatest values", greatest_values()
+    yield "the greatest values", greatest_wired_values()
+    yield "the greatest values without wires", greatest_values()
     for number in range(3):
-        yield f"a greatest job, {number}", greatest(Dice(number))
+        yield f"a greatest job, {number}", greatest_wired(Dice(number))
+        yield f"a greatest job without wires, {number}", greatest(Dice(number))
+    chained = [(a, b, 1000) for a, b in chain(None, 256)]
     for wiring, name in enumerate(("flat", "cube", "ring")):
-        chained = [(a, b, 1000) for a, b in chain(None, 256)]
-        yield f"the dearest chain, {name}", etf.Job(16, wiring, 100, [1_000_000] * 256, chained)
-    yield "256 steps on one board", etf.Job(1, 0, 100, [1_000_000] * 256, [])
-    yield "256 steps on 16 boards", etf.Job(16, 0, 100, list(range(1, 257)), [])
+        yield f"the dearest chain, {name}", rules.job(16, wiring, 100, [1_000_000] * 256, chained)
+    yield "the dearest chain, wires", rules.wired(16, [250] * 240, [1_000_000] * 256, chained)
+    yield "256 steps on one board", rules.job(1, 0, 100, [1_000_000] * 256, [])
+    yield "256 steps on 16 boards", rules.job(16, 0, 100, list(range(1, 257)), [])
 
 
 def long(dice):
     """Inputs longer than any job, the last ones of some megabytes."""
-    good, most = etf.write(next(worked())[1]), etf.write(greatest_values())
+    good, most = rules.write(next(worked())[1]), rules.write(greatest_wired_values())
     assert len(most) == LONGEST
     noise = bytes(dice.below(256) for _ in range(4096))
     for name, head in (("case A", good), ("the greatest job", most)):
@@ -126,6 +128,8 @@ def long(dice):
                 yield f"{name} and {more} bytes", head + (noise * (more // 4096 + 1))[:more]
     yield "the greatest job twice", most + most
     yield "a link too many", most[:-1] + link(254, 255) + END
+    yield "a wire too many", most[: 4 + 4 * 240] + wire(15, 14) + most[4 + 4 * 240 :]
+    yield "a rack and wires, megabytes", rack(2, 3) + (wire(0, 1) + wire(1, 0)) * 300_000
     yield "a rack and steps, megabytes", rack() + step() * 600_000
     yield "a rack, steps and links, megabytes", rack() + step() * 256 + link(0, 1) * 600_000
     yield "zeros, megabytes", bytes(3_000_000)
@@ -136,11 +140,11 @@ def fixed(dice):
     """The fixed inputs, each with its name."""
     yield "the empty input", b""
     for name, job in worked():
-        yield name, etf.write(job)
+        yield name, rules.write(job)
     for file in sorted((TOP / "examples").glob("*.job")):
         yield f"examples/{file.name}", file.read_bytes()
     for name, job in large():
-        yield name, etf.write(job)
+        yield name, rules.write(job)
     yield from long(dice)
 
 
@@ -157,7 +161,7 @@ def parting(found, due):
 
 def hold(program, data, ways, dice):
     """Runs the program on an input in some ways; gives the answer that is due, a plan's without its numbers."""
-    due = etf.report(data).encode()
+    due = rules.report(data).encode()
     for way in ways:
         name = way.__name__.replace("_", " ")
         try:
@@ -173,7 +177,7 @@ def hold(program, data, ways, dice):
 
 def hold_failures(program):
     """What cannot be read or written gives one line on standard error, nothing on standard output, and status 0."""
-    data = etf.write(next(worked())[1])
+    data = rules.write(next(worked())[1])
     with open("/dev/null", "wb") as unreadable, open("/dev/null", "rb") as unwritable:
         read = subprocess.run([program], stdin=unreadable, capture_output=True, timeout=SECONDS)
         write = subprocess.run([program], input=data, stdout=unwritable, stderr=subprocess.PIPE, timeout=SECONDS)

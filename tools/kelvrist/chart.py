@@ -1,7 +1,7 @@
 """The drawing of a plan: a row a board, a box a step, a line a message bundle between boards, the cover's chain in orange."""
 from html import escape
 
-from kelvrist.jobfile import WIRINGS
+from kelvrist.jobfile import OWN, WIRINGS
 from kelvrist.walk import bundle_time
 
 LEFT, RIGHT = 78, 44
@@ -168,8 +168,7 @@ class Chart:
         """The lines above the plan, each with its class."""
         listing = self.listing
         yield "title", f"end {listing.end:,}   cover {listing.cover:,}   dearest {listing.dearest:,}".replace("   ", " \u00a0 ")
-        rack = f", {WIRINGS[self.job.rack[1]]}, unit cost {self.job.rack[2]}" if self.job else ""
-        yield "note", f"{some(listing.boards, 'board')}{rack}; {some(len(self.steps), 'step')}, {some(listing.links, 'link')}"
+        yield "note", f"{some(listing.boards, 'board')}{self.rack_words()}; {some(len(self.steps), 'step')}, {some(listing.links, 'link')}"
         if not self.job:
             return
         total = sum(move.time for move in self.moves)
@@ -177,6 +176,16 @@ class Chart:
             yield "wrong", f"the listing's cover is {listing.cover:,}, but the walk's sum is {total:,}"
         else:
             yield "note", self.walk_words()
+
+    def rack_words(self):
+        """The rack's wiring and costs, where the job is known."""
+        if not self.job:
+            return ""
+        _, wiring, unit = self.job.rack
+        if wiring != OWN:
+            return f", {WIRINGS[wiring]}, unit cost {unit}"
+        costs = [wire[2] for wire in self.job.wires]
+        return f", {some(len(costs), 'wire')} of cost {min(costs)} to {max(costs)}" if costs else ", no wires"
 
     def walk_words(self):
         """The walk in words, as far as it fits."""

@@ -1,10 +1,11 @@
-"""The job file of document 01: its records and their rules. Reader, writer and text form all go by the table RECORDS."""
+"""The job file of documents 01 and 02: its records and their rules. Reader, writer and text form all go by the table RECORDS."""
 from typing import NamedTuple
 
-WIRINGS = ("flat", "cube", "ring")
+WIRINGS = ("flat", "cube", "ring", "wires")
+OWN = WIRINGS.index("wires")  # the wiring whose costs the job gives itself
 MOST_STEPS, MOST_LINKS = 256, 1024
 
-# What each refusal of a job file means, in the words of document 01's table.
+# What each refusal of a job file means, in the words of the documents.
 MEANING = {
     1: "the file ends where a record or its body is due",
     2: "kind unknown",
@@ -14,11 +15,12 @@ MEANING = {
     6: "from not below to, or to not below m",
     7: "a link not above the one before",
     8: "bytes after the end record",
+    14: "a wire that is not the next pair due or comes past the last, or a step before all pairs stand",
 }
 
 
 class Value(NamedTuple):
-    """A value of a record: its name, the bytes that hold it, and its range (a link's ends have a rule of their own)."""
+    """A value of a record: its name, the bytes that hold it, and its range (the ends of a wire and of a link have rules of their own)."""
     name: str
     width: int
     low: int
@@ -27,12 +29,13 @@ class Value(NamedTuple):
 
 # The values of each record, and the byte of its kind.
 RECORDS = {
-    "rack": (Value("boards", 1, 1, 16), Value("wiring", 1, 0, 2), Value("cost", 1, 0, 100)),
+    "rack": (Value("boards", 1, 1, 16), Value("wiring", 1, 0, 3), Value("cost", 1, 0, 100)),
+    "wire": (Value("from", 1, 0), Value("to", 1, 0), Value("cost", 1, 0, 250)),
     "step": (Value("duration", 4, 1, 1_000_000),),
     "link": (Value("from", 1, 0), Value("to", 1, 0), Value("messages", 2, 1, 1000)),
     "end": (),
 }
-KINDS = {"rack": 1, "step": 2, "link": 3, "end": 4}
+KINDS = {"rack": 1, "step": 2, "link": 3, "end": 4, "wire": 5}
 
 
 class Refused(Exception):
@@ -44,10 +47,17 @@ class Refused(Exception):
 
 
 class Job:
-    """A rack (boards, wiring, cost), steps (their durations) and links (from, to, messages), taken record by record."""
+    """A rack (boards, wiring, cost), wires (from board, to board, cost), steps (their durations) and links (from, to, messages), taken
+    record by record."""
 
     def __init__(self):
-        self.rack, self.steps, self.links = None, [], []
+        self.rack, self.wires, self.steps, self.links = None, [], [], []
+
+    def due(self):
+        """The pair of boards whose wire is due next; none where all stand or the wiring has no wires."""
+        boards, wiring, _ = self.rack
+        pairs = [(p, q) for p in range(boards) for q in range(boards) if p != q] if wiring == OWN else []
+        return pairs[len(self.wires)] if len(self.wires) < len(pairs) else None
 
     def expect(self, name):
         """Refuses a record that may not stand here or is one too many."""
@@ -55,8 +65,13 @@ class Job:
             raise Refused(3, f"a rack must come before the {name}")
         if self.rack is not None and name == "rack":
             raise Refused(3, "there is a rack already")
+        if name == "wire" and self.rack[1] != OWN:
+            raise Refused(3, f"a wire needs a rack of wiring {WIRINGS[OWN]}, and this one's is {WIRINGS[self.rack[1]]}")
+        if name == "wire" and self.steps:
+            raise Refused(3, "wires come before steps")
         if not self.steps and name in ("link", "end"):
-            raise Refused(3, f"a step must come before the {name}")
+            first = "wire {} to {}".format(*self.due()) if self.due() else "a step"
+            raise Refused(3, f"{first} must come before the {name}")
         if self.links and name == "step":
             raise Refused(3, "steps come before links")
         if name == "step" and len(self.steps) == MOST_STEPS:
@@ -65,17 +80,31 @@ class Job:
             raise Refused(5, f"a job has at most {MOST_LINKS} links")
 
     def add(self, name, numbers):
-        """Takes a record that is expected; refuses a value out of range and a link that may not stand here."""
+        """Takes a record that is expected; refuses a value out of range, and a wire, step or link that does not fit those before."""
         for value, number in zip(RECORDS[name], numbers):
             if value.high is not None and not value.low <= number <= value.high:
                 raise Refused(4, f"{value.name} {number} is not {value.low} to {value.high}")
         if name == "rack":
             self.rack = tuple(numbers)
+        elif name == "wire":
+            self.judge_wire(*numbers[:2])
+            self.wires.append(tuple(numbers))
         elif name == "step":
+            if self.due():
+                raise Refused(14, "wire {} to {} must come before the first step".format(*self.due()))
             self.steps.append(numbers[0])
         elif name == "link":
             self.judge_link(*numbers[:2])
             self.links.append(tuple(numbers))
+
+    def judge_wire(self, sender, to):
+        """Refuses a wire that is not the next pair due."""
+        due = self.due()
+        if due is None:
+            stand = f"all {len(self.wires)} wires are there already" if self.wires else "a rack of one board has no wires"
+            raise Refused(14, f"wire {sender} to {to}: {stand}")
+        if (sender, to) != due:
+            raise Refused(14, f"wire {sender} to {to}: wires rise by from, then by to, and the next is {due[0]} to {due[1]}")
 
     def judge_link(self, sender, to):
         """Refuses a link by its two ends."""
@@ -90,6 +119,8 @@ class Job:
     def records(self):
         """The records in the order of the file, each as a name and its numbers."""
         yield "rack", self.rack
+        for wire in self.wires:
+            yield "wire", wire
         for duration in self.steps:
             yield "step", (duration,)
         for link in self.links:

@@ -1,4 +1,4 @@
-"""The text form of a job: a line for each record but the end, in the words of document 01."""
+"""The text form of a job: a line for each record but the end, in the words of the documents."""
 from kelvrist.jobfile import RECORDS, WIRINGS, Job, Refused, read, write
 
 LINES = [name for name in RECORDS if name != "end"]
@@ -69,8 +69,10 @@ def job_of(text):
 def text_of(job):
     """The text of a job, its steps numbered in comments."""
     boards, wiring, cost = job.rack
-    lines = ["# rack: boards, wiring, unit cost; step: duration; link: from, to, messages"]
+    wires = " wire: from, to, cost;" if job.wires else ""
+    lines = [f"# rack: boards, wiring, unit cost;{wires} step: duration; link: from, to, messages"]
     lines += [f"rack {boards} {WIRINGS[wiring]} {cost}"]
+    lines += ["wire {} {} {}".format(*wire) for wire in job.wires]
     lines += [f"step {duration:<12} # {at}" for at, duration in enumerate(job.steps)]
     lines += ["link {} {} {}".format(*link) for link in job.links]
     return "\n".join(lines) + "\n"

@@ -1,7 +1,8 @@
-"""Link costs, and the walk that gives the cover C, as document 01 words them."""
+"""Link costs, and the walk that gives the cover C, as the documents word them."""
 from typing import NamedTuple
 
 from kelvrist.inout import Trouble
+from kelvrist.jobfile import OWN
 
 
 class Move(NamedTuple):
@@ -14,14 +15,25 @@ class Move(NamedTuple):
 
 
 def hops(job, p, q):
+    """The hops between two boards that differ."""
     boards, wiring, _ = job.rack
     d = abs(p - q)
-    return 0 if p == q else (1, bin(p ^ q).count("1"), min(d, boards - d))[wiring]
+    return (1, bin(p ^ q).count("1"), min(d, boards - d))[wiring]
+
+
+def cost(job, p, q):
+    """The cost from board p to board q: by its wire where the job has wires, which stand by from, then by to."""
+    boards, wiring, unit = job.rack
+    if p == q:
+        return 0
+    if wiring == OWN:
+        return job.wires[p * (boards - 1) + q - (q > p)][2]
+    return unit * hops(job, p, q)
 
 
 def bundle_time(job, link, p, q):
     """What a link's messages take from board p to board q."""
-    return link[2] * job.rack[2] * hops(job, p, q)
+    return link[2] * cost(job, p, q)
 
 
 def latest_idle(steps, board, limit):
