@@ -21,19 +21,23 @@
  * Records, each of one byte of kind and a body. Numbers of more than one byte are little-endian.
  *
  *     kind  name  body
- *     1     rack  processors n (1 byte, 1 to 16), wiring (1 byte: 0 flat, 1 cube, 2 ring),
- *                 unit cost c (1 byte, 0 to 100)
+ *     1     rack  processors n (1 byte, 1 to 16), wiring (1 byte: 0 flat, 1 cube, 2 ring,
+ *                 3 by wires), unit cost c (1 byte, 0 to 100)
+ *     5     wire  from processor (1 byte), to processor (1 byte), cost (1 byte, 0 to 250)
  *     2     step  a task: duration (4 bytes, 1 to 1,000,000)
  *     3     link  an edge: from (1 byte), to (1 byte), message count (2 bytes, 1 to 1,000)
  *     4     end   none
  *
- * One rack, then the steps, then the links, then the end record and no more bytes. Tasks are numbered
- * from 0 as they stand; m is how many there are. An edge has from below to and to below m. Edges rise
- * by from, then by to, and no pair stands twice.
+ * One rack, then under wiring 3 the wires, then the steps, then the links, then the end record and no
+ * more bytes. There is a wire for each ordered pair of different processors below n, so n(n - 1) of
+ * them, and they rise by from, then by to. Tasks are numbered from 0 as they stand; m is how many there
+ * are. An edge has from below to and to below m. Edges rise by from, then by to, and no pair stands
+ * twice. A job has 5 + 5 times (tasks + edges) bytes, and 4 more for each wire.
  *
- * Messages from processor p to processor q take their count times c times the hops: 0 from a processor
- * to itself; else 1 (flat), the number of binary places in which p and q differ (cube), or the shorter
- * way round (ring).
+ * Messages from processor p to processor q take their count times the cost from p to q. That is 0 from
+ * a processor to itself; else, under wiring 3, the cost of the wire from p to q, which may differ from
+ * that of the way back, and c is not used; else c times the hops: 1 (flat), the number of binary places
+ * in which p and q differ (cube), or the shorter way round (ring).
  *
  *
  * The plan's bytes
@@ -68,15 +72,16 @@ extern "C" {
 #define KELVRIST_PROCESSORS 16
 #define KELVRIST_TASKS 256
 #define KELVRIST_EDGES 1024
-#define KELVRIST_JOB_BYTES 6405
+#define KELVRIST_WIRES 240
+#define KELVRIST_JOB_BYTES 7365
 #define KELVRIST_PLAN_BYTES 1280
 #define KELVRIST_LATEST_START 600000000
 
 /* What a call returns.
  *
  * The first trouble counts. Records are judged from the left, and within a record the order is 2, 3,
- * 5, 1, 4, 6, 7; then come 8 and 9. kelvrist_check goes on with each task by number, 10 before 11, then
- * with 12 for any two tasks, then with 13 for any edge.
+ * 5, 1, 4, 14, 6, 7; then come 8 and 9. kelvrist_check goes on with each task by number, 10 before 11,
+ * then with 12 for any two tasks, then with 13 for any edge.
  */
 enum kelvrist_answer {
     /* The job is planned, or the plan handed in is good. */
@@ -86,12 +91,14 @@ enum kelvrist_answer {
 
     /* The job's bytes end where a record or the rest of one is due. An empty job is one such. */
     KELVRIST_JOB_ENDS_EARLY = 1,
-    /* A record's kind is not 1 to 4. */
+    /* A record's kind is not 1 to 5. */
     KELVRIST_KIND_UNKNOWN = 2,
     /* A record of a known kind may not stand here: the first is no rack, a rack stands again, a link or
-     * the end stands before any step, or a step stands after a link. */
+     * the end stands before any step, a step stands after a link, or a wire stands under a wiring other
+     * than 3 or after a step. */
     KELVRIST_KIND_OUT_OF_PLACE = 3,
-    /* A number of processors, wiring, unit cost, duration or message count is outside its range. */
+    /* A number of processors, wiring, unit cost, duration, message count or cost of a wire is outside
+     * its range. */
     KELVRIST_VALUE_OUT_OF_RANGE = 4,
     /* There is a task past 256 or an edge past 1,024. */
     KELVRIST_TOO_MANY = 5,
@@ -101,6 +108,9 @@ enum kelvrist_answer {
     KELVRIST_EDGE_ORDER = 7,
     /* Bytes follow the end record. */
     KELVRIST_BYTES_AFTER_END = 8,
+    /* A wire is not that of the next pair due or comes past the last, or a step stands before all pairs
+     * have a wire. */
+    KELVRIST_WIRE_ORDER = 14,
 
     /* The plan's buffer is refused: either function. */
 
@@ -124,7 +134,7 @@ enum kelvrist_answer {
  * accepts it.
  *
  * On KELVRIST_OK the first 5m bytes of the plan are filled, and no other byte is altered.
- * On 1 to 9 nothing is altered. 10 to 13 are not returned.
+ * On 1 to 9 and on 14 nothing is altered. 10 to 13 are not returned.
  */
 uint32_t kelvrist_plan(const uint8_t *job, size_t job_length, uint8_t *plan, size_t plan_length);
 
@@ -132,7 +142,7 @@ uint32_t kelvrist_plan(const uint8_t *job, size_t job_length, uint8_t *plan, siz
  * overlap on a processor, and no task starts before the messages sent to it are there. The plan need
  * not be kelvrist_plan's.
  *
- * Returns KELVRIST_OK for a good plan, or 1 to 13. The first 5m bytes of the plan are read, no others;
+ * Returns KELVRIST_OK for a good plan, or 1 to 14. The first 5m bytes of the plan are read, no others;
  * nothing is altered.
  */
 uint32_t kelvrist_check(const uint8_t *job, size_t job_length, const uint8_t *plan, size_t plan_length);
