@@ -10,11 +10,11 @@ use lib.Dec.{T as Holds}
 use lib.ListN.{length, drop, length-append, length-map}
 use lib.Seq.{drop-at, drop-drop}
 use Rattle.base.specs.Choice.{pick}
-use Rattle.base.specs.Laws.Tests.{first, parts, both, fails, not-not, ne→neqb, lt→nleb, when-true}
+use Rattle.base.specs.Laws.Tests.{first, parts, both, fails, not-not, eq→eqb, ne→neqb, lt→nleb}
 use Rattle.job.specs.declared.Platform.{Platform}
 use Rattle.job.specs.Job.{Edge, Wire, ends, Job, blank, withRack, withWires, withTasks, withEdges}
 use Rattle.job.specs.Record.{Kind, rack, step, link, end, wire, empty, noRack, stands, full, platformInRange}
-use Rattle.job.specs.Record.{pairs, wirePairs, pairsDue, isDue, tooEarly}
+use Rattle.job.specs.Record.{wirePairs, pairsDue, isDue, tooEarly}
 use Rattle.job.specs.Pass.{key, StepDue, LinkDue, platformTrouble}
 use Rattle.job.specs.Laws.Lists.{empty-nil, empty-is, empty-not}
 use Rattle.job.specs.Laws.Tests.{platform-facts}
@@ -78,19 +78,14 @@ pub wired-up : (j : Job) → pairsDue j ≡ [] → tooEarly j ≡ 0
 unfolding tooEarly
 wired-up j e = rw e
 
--- after the rack a wire may follow where it has pairs, ..
-pub first-wire : (p : Platform) → 1 ≤ p .processors → 1 ≤ length (wirePairs p) → Holds (stands (withRack blank p) wire)
-unfolding stands noRack blank wirePairs
-first-wire p n h = go (eqb (p .topology) 3) refl h
-  where
-    go : (t : Bool) → eqb (p .topology) 3 ≡ t → 1 ≤ length (pick t (pairs (p .processors)) [])
-        → Holds (not (eqb (p .processors) 0) && eqb (p .topology) 3 && true)
-    go true e h =
-        both (not (eqb (p .processors) 0) && eqb (p .topology) 3) true
-        (both (not (eqb (p .processors) 0)) (eqb (p .topology) 3) (ne→neqb (p .processors) 0 (λ z. omega arith)) (when-true e)) tt
-    go false e h = absurd (omega arith)
+-- after the rack a wire may follow under topology 3, ..
+pub first-wire : (p : Platform) → 1 ≤ p .processors → p .topology ≡ 3 → Holds (stands (withRack blank p) wire)
+unfolding stands noRack blank
+first-wire p n t =
+    both (not (eqb (p .processors) 0) && eqb (p .topology) 3) true
+    (both (not (eqb (p .processors) 0)) (eqb (p .topology) 3) (ne→neqb (p .processors) 0 (λ z. omega arith)) (eq→eqb (p .topology) 3 t)) tt
 
--- .. and all of them are due
+-- .. and the wires of all its pairs are due
 pub all-due : (p : Platform) → pairsDue (withRack blank p) ≡ wirePairs p
 unfolding pairsDue blank
 all-due p = refl

@@ -23,7 +23,7 @@ use Rattle.job.specs.Pass.{linksTrouble, jobTrouble, Met, LinkDue}
 use Rattle.job.specs.Laws.Judged.{under, passes, stops}
 use Rattle.job.specs.Laws.Due.{racked, first-wire, all-due, due-after, wired-up, first-step, first-link}
 use Rattle.job.specs.Laws.Encoded.{first-met, read-rack, read-wires, read-steps, read-links, read-end}
-use Rattle.job.specs.Laws.Wires.{held-ends}
+use Rattle.job.specs.Laws.Wires.{held-ends, by-wires}
 use Rattle.job.specs.Laws.Lists.{empty-nil, some-in}
 use Rattle.job.specs.Laws.Halt.{few-counts, room-refused}
 
@@ -95,7 +95,7 @@ module _ (p : Platform) (ws : List Wire) (n : 1 ≤ p .processors) (stand : map 
       → records (flatMap wireBytes ws ++ tail) 0 (withRack blank p)
       ≡ refusedOr (wiresTrouble ws) (records tail 0 (withWires (withRack blank p) ws))
   met-wires tail =
-      read-wires (withRack blank p) ws tail (λ h. first-wire p n (rw (← stand, length-map ws ends) h)) (all-due p ∙ sym stand)
+      read-wires (withRack blank p) ws tail (λ h. first-wire p n (by-wires p (rw (← stand, length-map ws ends) h))) (all-due p ∙ sym stand)
 
   all-wired : tooEarly (withWires (withRack blank p) ws) ≡ 0
   unfolding blank

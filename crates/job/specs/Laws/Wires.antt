@@ -1,7 +1,7 @@
 -- The pairs of processors in their order (`dueFrom`: those that are still to come), and wires in an array of sixteen rows of sixteen.
 -- The pairs rise by 16 p + q, so that no pair has two wires, and the wire that is found first is the only one.
 use mathlib.Core.Path.{_≡_, refl, ap, sym, _∙_}
-use mathlib.Core.Logic.{_⊎_, inl, inr}
+use mathlib.Core.Logic.{_⊎_, inl, inr, ⊎-elim}
 use mathlib.Core.Bool.{Bool, true, false, not, _&&_}
 use mathlib.Core.List.{List, [], _∷_, _++_, map, flatMap}
 use Prim.Native.Nat.{ℕ, zero, suc, _+_, _*_, _-_, _/_, _%_, _≤_, _<_}
@@ -12,8 +12,7 @@ use lib.Dec.{ltb, eqb, lt→ltb, eqb→eq, eqb-refl}
 use lib.ListN.{length, getD, set, length-append, length-map, length-set}
 use lib.Seq.{getD-set-same, getD-set-other, ext-getD}
 use Rattle.base.specs.Choice.{pick}
-use Rattle.base.specs.Lists.{_∈_, upto, filter, values}
-use Rattle.base.specs.Laws.Lists.{filter-of, map-of, flatMap-of, upto-of}
+use Rattle.base.specs.Lists.{filter, values}
 use Rattle.base.specs.Laws.Tests.{impossible, both, parts, fails, lt→nleb, pick-yes, pick-no, eq→eqb, ne→neqb}
 use Rattle.base.specs.Laws.Tests.{is-true, is-false, same-or-not, lt-or-ge}
 use Rattle.base.specs.Laws.Values.{upto-values, values-front, values-none, value-at, length-values}
@@ -97,14 +96,6 @@ pair-turn n x r o h a = due-pair n (x .from) (x .to) o h ∙ rw (a .left) refl
 pub pairs-fewer : (n : ℕ) (x r : Pair) → OnPair n (x .from) (x .to) → x .from < n → PairAfter n x r
     → length (dueFrom n (r .from) (r .to)) < length (dueFrom n (x .from) (x .to))
 pairs-fewer n x r o h a = rw (pair-turn n x r o h a) (omega arith)
-
-pub pairs-within : (n : ℕ) (x : ℕ × ℕ) → x ∈ pairs n → (x .0 < n) × (x .1 < n)
-unfolding pairs
-pairs-within n x h =
-    let r = flatMap-of (λ p. map (λ q. (p, q)) (filter (λ q. not (eqb p q)) (upto n))) (upto n) x h in
-    let s = map-of (λ q. (r .0, q)) (filter (λ q. not (eqb (r .0) q)) (upto n)) x (r .2) in
-    let t = filter-of (λ q. not (eqb (r .0) q)) (upto n) (s .0) (s .1) in
-    rw (s .2) (upto-of n (r .0) (r .1), upto-of n (s .0) (t .0))
 
 -- of the numbers from i to before i + k those that are not p: all, or all but one
 all-others : (p i k : ℕ) → p < i → length (filter (λ y. not (eqb p y)) (values (λ j. j) i k)) ≡ k
@@ -292,6 +283,10 @@ wired p e = pick-yes (eqb (p .topology) 3) (pairs (p .processors)) [] (eq→eqb 
 pub unwired : (p : Platform) → (p .topology ≡ 3 → ⊥) → wirePairs p ≡ []
 unfolding wirePairs
 unwired p d = pick-no (eqb (p .topology) 3) (pairs (p .processors)) [] (ne→neqb (p .topology) 3 d)
+
+-- a rack that has pairs is wired so
+pub by-wires : (p : Platform) → 1 ≤ length (wirePairs p) → p .topology ≡ 3
+by-wires p h = ⊎-elim (λ e. e) (λ d. absurd (omega (arith, ap length (unwired p d)))) (same-or-not (p .topology) 3)
 
 -- the wires of a rack: no more than 240, and those that their array holds
 pub few-pairs : (p : Platform) → p .processors ≤ 16 → length (wirePairs p) ≤ 240

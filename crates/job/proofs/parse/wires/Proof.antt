@@ -1,15 +1,13 @@
 -- `parse::wires`: the loop keeps that the answer to the file is the answer to its rest, with the wires taken so far; their pairs and those
 -- that are due are all pairs, so that where none is due the array holds the wires that were taken.
-use mathlib.Core.Bool.{not, true, _&&_}
 use mathlib.Core.Path.{_≡_, refl, ap, sym, _∙_}
 use mathlib.Core.List.{List, [], _∷_, _++_, map, map-append, append-assoc, append-nil}
 use Prim.Native.Nat.{ℕ, _+_, _*_, _-_, _≤_, _<_}
 use native.Mathlib.Omega.{arith}
 use borrow.Author.Needs.{needs}
-use lib.Dec.{eqb}
 use lib.Dec.{T as Holds}
 use lib.ListN.{length, getD, drop, set}
-use Rattle.base.specs.Laws.Tests.{both, eq→eqb, ne→neqb, when-true, when-false}
+use Rattle.base.specs.Laws.Tests.{when-true, when-false}
 use Rattle.job.specs.declared.Platform.{Platform}
 use Rattle.job.specs.declared.record.Pair.{Pair}
 use Rattle.job.specs.declared.parse.FoundWire.{FoundWire}
@@ -22,7 +20,7 @@ use Rattle.job.specs.Pass.{WiresPassed}
 use Rattle.job.specs.Laws.Judged.{passes, stops}
 use Rattle.job.specs.Laws.Kinds.{kindByte, kind-byte}
 use Rattle.job.specs.Laws.Tests.{platform-facts}
-use Rattle.job.specs.Laws.Due.{wires-then, no-wires, due-after, wired-up, first-step, bare}
+use Rattle.job.specs.Laws.Due.{wires-then, no-wires, due-after, wired-up, first-wire, first-step, bare}
 use Rattle.job.specs.Laws.Wires.{first-due, past-itself, due-pair, none-due, array-more, wired, unwired, held-back}
 use Rattle.job.proofs.parse.wires.Statement.{statement}
 use Rattle.job.proofs.parse.wires.Tie as tie
@@ -101,14 +99,7 @@ module _ (file : List ℕ) (start n : ℕ) (costs : List ℕ) (due : Pair) (at :
 
     wire-due : WireDue now left
     unfolding stands noRack blank
-    wire-due =
-        let some = ne→neqb (p .processors) 0 (λ e. omega (arith, w .some, w .processors-are)) in
-        let three = eq→eqb (p .topology) 3 (w .by-wires) in
-        record {
-          placed = both (not (eqb (p .processors) 0) && eqb (p .topology) 3) true
-              (both (not (eqb (p .processors) 0)) (eqb (p .topology) 3) some three) tt;
-          due-are = due-are;
-        }
+    wire-due = record { placed = first-wire p (omega (arith, w .some, w .processors-are)) (w .by-wires); due-are = due-are }
 
     step-due : StepDue now 0
     step-due = first-step p (g .ws) (omega (arith, w .some, w .processors-are))
