@@ -1,11 +1,12 @@
 """Cases of jobs with wires (document 02 §1) in planner, cover call, checker, listing and the station controller's calls."""
 import rules
 from rules import wrong
-from vectors.entries import SCRATCH, check, handed, listing, plan, planned, station_check, station_plan
+from vectors.entries import SCRATCH, check, handed, listing, plan, planned, station_plan
 from vectors.jobs import MOST_TASKS, SHAPES, costs, distinct, greatest_wired, greatest_wired_values, random_job, with_wires
 from vectors.larger import damaged_plans, shaped
 from vectors.plans import changed
 from vectors.records import END, damaged, link, rack, step, wire
+from vectors.refusals import passed_on
 from vectors.shortcuts import RING_DIFFERENCE, SHORTCUTS, TIES, telling
 from vectors.told import of_job, told
 from vectors.wires import SMALL_WIRED, TWO, head
@@ -131,19 +132,6 @@ REFUSED = {
 }
 
 
-def passed_on(cases):
-    """The reader's number comes before 9, and no slice is altered."""
-    for number, files in REFUSED.items():
-        for data in files:
-            assert told(data).refusal == number
-            planned(cases, data, more=3)
-            handed(cases, data, [(0, 0), (1, 5), (0, 9)])
-        plan(cases, data, 0, 0, 0)
-        station_plan(cases, data, 0)
-        check(cases, data, [], [])
-        station_check(cases, data, b"")
-
-
 def too_short(cases):
     """Each slice alone too short, and all of the exact length."""
     data, m = rules.write(SMALL_WIRED), len(SMALL_WIRED.steps)
@@ -220,7 +208,7 @@ def add_cases(cases, dice):
     squares(cases)
     ways(cases)
     telling_jobs(cases, dice)
-    passed_on(cases)
+    passed_on(cases, REFUSED)
     too_short(cases)
     checked(cases, dice)
     larger(cases, dice)

@@ -18,9 +18,9 @@ REFUSED = {
 }
 
 
-def passed_on(cases):
+def passed_on(cases, refused):
     """The reader's number comes before 9, and no slice is altered."""
-    for number, files in REFUSED.items():
+    for number, files in refused.items():
         for data in files:
             assert told(data).refusal == number
             planned(cases, data, more=3)
@@ -67,7 +67,7 @@ def damaged_files(cases, dice):
 
 
 def add_cases(cases, dice):
-    passed_on(cases)
+    passed_on(cases, REFUSED)
     too_short(cases)
     greatest_too_short(cases)
     damaged_files(cases, dice)
