@@ -55,7 +55,7 @@ module _ (file : List ℕ) where
   reader-refuses k e = read-refused file k (refused-is (readJob file) e)
 
   -- the program prints a plan, or the reader's number, and nothing else
-  pub program-answers : ((j : Job) × (readJob file ≡ accepted j) × (listing file ≡ planListing (instance j)))
+  pub program-answers : ((j : Job) × (readJob file ≡ accepted j) × (listing file ≡ planListing j))
       ⊎ ((k : ℕ) × (readJob file ≡ refused k) × ReaderNumber k × (listing file ≡ refusalLine k))
   program-answers = prints file
 

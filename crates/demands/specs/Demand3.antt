@@ -49,7 +49,7 @@ worst-case file o f starts processors scratch p starts₂ processors₂ scratch�
     let same = ap (λ (i : Job). figures (instance i)) (one-job (Q .says) (P .says)) in
     bounds (P .job) (P .says) (outcome-is file starts processors scratch P) (figures-is file starts₂ processors₂ scratch₂ Q ∙ same)
   where
-    bounds : {o : Outcome} {f : Figures} (j : Job) → readJob file ≡ accepted j → o ≡ outcome (instance j) → f ≡ figures (instance j)
+    bounds : {o : Outcome} {f : Figures} (j : Job) → readJob file ≡ accepted j → o ≡ outcome j → f ≡ figures (instance j)
         → Promised file (o .end) (f .cover) (f .dearest)
     bounds j a e g =
         let W = well-formed j (accepted-job file j a) in
@@ -81,7 +81,7 @@ accepted-job-within file j e starts processors scratch r starts₂ processors₂
     let p = plan-taken file starts processors scratch (j, e, r) in
     let c = cover-taken file starts₂ processors₂ scratch₂ (j, e, r₂) in
     record {
-      reported = outcome (instance j);
+      reported = outcome j;
       measured = figures (instance j);
       of-tasks = refl;
       planner-reports = p;

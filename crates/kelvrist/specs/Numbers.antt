@@ -21,7 +21,7 @@ use Rattle.schedule.specs.declared.Planned.{Planned}
 use Rattle.schedule.specs.declared.Planned.the-variants.{Plan, Refused}
 use Rattle.schedule.specs.declared.Checked.{Checked}
 use Rattle.schedule.specs.declared.Checked.the-variants.{Yes, Refused as NotChecked}
-use Rattle.schedule.specs.Call.{Call, startOf, processorOf, arrivalPlaces, laidOut, tooShort, callFor}
+use Rattle.schedule.specs.Call.{Call, startOf, processorOf, arrivalPlaces, laidOut, planFor, tooShort, callFor}
 use Rattle.schedule.specs.Plan.{outcome, planCall}
 use Rattle.schedule.specs.Check.{checkOf, checkedAs, numberOf, checkFor, checkCall}
 use Rattle.schedule.specs.Laws.Checker.Answer.{check-of-same}
@@ -63,7 +63,7 @@ unfolding planBytesCall planCall planBytesFor callFor laidOut tooShort outcome
 plan-in-bytes file plan starts processors scratch a b c = go (readJob file) refl
   where
     call : Answer → Call Planned
-    call x = callFor arrivalPlaces Refused (laidOut (λ I. Plan (outcome I))) x starts processors scratch
+    call x = callFor arrivalPlaces Refused (planFor (λ j. Plan (outcome j))) x starts processors scratch
 
     held : (j : Job) → tasks (instance j) ≤ mostTasks → planBytesFor (accepted j) plan ≡ inBytes (call (accepted j)) plan
     held j small =

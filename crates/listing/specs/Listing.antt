@@ -7,14 +7,14 @@ use lib.Dec.{ltb}
 use lib.ListN.{length, drop}
 use Rattle.base.specs.Choice.{pick}
 use Rattle.base.specs.Lists.{upto}
+use Rattle.job.specs.Job.{Job}
 use Rattle.job.specs.Read.{Answer, accepted, refused, readJob}
-use Rattle.etf.specs.Instance.{Instance, tasks, duration}
-use Rattle.etf.specs.Schedule.{end}
-use Rattle.etf.specs.Rule.{planned}
+use Rattle.etf.specs.Instance.{tasks, duration}
 use Rattle.etf.specs.Cover.{cover}
 use Rattle.etf.specs.Dearest.{dearest}
 use Rattle.etf.specs.OfJob.{instance}
 use Rattle.schedule.specs.Call.{startOf, processorOf}
+use Rattle.schedule.specs.Plan.{endOf}
 
 -- the bytes of a text, in ASCII
 unfoldable pub text : String → List ℕ
@@ -62,11 +62,12 @@ taskLines m processor start time = flatMap (λ T. taskLine T (processor T) (star
 unfoldable pub figures : ℕ → ℕ → ℕ → List ℕ
 figures E C D = line (text "end ") E ++ (line (text "cover ") C ++ line (text "dearest ") D)
 
--- the listing of a plan
-unfoldable pub planListing : Instance → List ℕ
-planListing I =
-    header (I .processors) (tasks I) (length (I .edges))
-    ++ (taskLines (tasks I) (processorOf I) (startOf I) (duration I) ++ figures (end I (planned I)) (cover I) (dearest I))
+-- the listing of a job's plan
+unfoldable pub planListing : Job → List ℕ
+planListing j =
+    header (instance j .processors) (tasks (instance j)) (length (instance j .edges))
+    ++ (taskLines (tasks (instance j)) (processorOf (instance j)) (startOf (instance j)) (duration (instance j))
+    ++ figures (endOf j) (cover (instance j)) (dearest (instance j)))
 
 -- 01: "A refusal prints one line, `refused`, a space and its number, nothing else"
 unfoldable pub refusalLine : ℕ → List ℕ
@@ -74,7 +75,7 @@ refusalLine k = line (text "refused ") k
 
 -- what is printed for the reader's answer
 unfoldable pub listingFor : Answer → List ℕ
-listingFor (accepted j) = planListing (instance j)
+listingFor (accepted j) = planListing j
 listingFor (refused k) = refusalLine k
 
 -- what the program prints for a file

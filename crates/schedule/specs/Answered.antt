@@ -12,9 +12,9 @@ use Rattle.base.specs.Laws.Tests.{le-or-lt}
 use Rattle.job.specs.Job.{Job}
 use Rattle.job.specs.Read.{Answer, accepted, refused, readJob}
 use Rattle.job.specs.Refusal.{read-numbers}
-use Rattle.etf.specs.Instance.{Instance, tasks}
+use Rattle.etf.specs.Instance.{tasks}
 use Rattle.etf.specs.OfJob.{instance}
-use Rattle.schedule.specs.Call.{Call, called, arrivalPlaces, laidOut, tooShort, CallNumber, callFor}
+use Rattle.schedule.specs.Call.{Call, called, arrivalPlaces, laidOut, planFor, tooShort, CallNumber, callFor}
 use Rattle.schedule.specs.Lent.{Short, HasRoom}
 
 -- ---- room in the slices, and the definition's test of it
@@ -93,9 +93,9 @@ module _ (file starts processors scratch : List ℕ) where
   slices = refuses-or-accepts file _ _ (λ j. short-or-room (tasks (instance j)) starts processors scratch)
 
   -- that refuses by `refuse` and answers by `answer`
-  module _ {A : Type 0} (refuse : ℕ → A) (answer : Instance → A) where
+  module _ {A : Type 0} (refuse : ℕ → A) (answer : Job → A) where
     abbrev pub callOf : Call A
-    callOf = callFor arrivalPlaces refuse (laidOut answer) (readJob file) starts processors scratch
+    callOf = callFor arrivalPlaces refuse (planFor answer) (readJob file) starts processors scratch
 
     -- with a cause for k it is a refusal by k that leaves the slices as they were
     pub call-refused : (k : ℕ) → SlicesRefused k → callOf ≡ called (refuse k) starts processors scratch
@@ -107,11 +107,11 @@ module _ (file starts processors scratch : List ℕ) where
     call-number k r = ap (λ (c : Call A). c .answer) (call-refused k r)
 
     -- without one the plan is laid out
-    pub call-taken : (a : SlicesTaken) → callOf ≡ laidOut answer (instance (a .0)) starts processors scratch
+    pub call-taken : (a : SlicesTaken) → callOf ≡ planFor answer (a .0) starts processors scratch
     unfolding callFor
     call-taken (j, e, f) = rw (e, callFor, room-false (tasks (instance j)) starts processors scratch f)
 
-    pub call-answer : (a : SlicesTaken) → callOf .answer ≡ answer (instance (a .0))
+    pub call-answer : (a : SlicesTaken) → callOf .answer ≡ answer (a .0)
     unfolding laidOut
     call-answer a = ap (λ (c : Call A). c .answer) (call-taken a)
 
@@ -119,21 +119,21 @@ module _ (file starts processors scratch : List ℕ) where
     pub call-answered : SlicesTaken ⊎ ((k : ℕ) × (callOf .answer ≡ refuse k) × CallNumber k)
     call-answered = ⊎-elim (λ r. inr (r .0, call-number (r .0) (r .1), refusal-number file _ (r .0) (r .1))) inl slices
 
-    module _ (one : (i k : ℕ) → refuse i ≡ refuse k → i ≡ k) (apart : (k : ℕ) (I : Instance) → ¬ (refuse k ≡ answer I)) where
+    module _ (one : (i k : ℕ) → refuse i ≡ refuse k → i ≡ k) (apart : (k : ℕ) (j : Job) → ¬ (refuse k ≡ answer j)) where
       pub call-cause : (k : ℕ) → callOf .answer ≡ refuse k → SlicesRefused k
       call-cause k h = go slices
         where
           go : ((i : ℕ) × SlicesRefused i) ⊎ SlicesTaken → SlicesRefused k
           go (inl (i, r)) = subst SlicesRefused (one i k (sym (call-number i r) ∙ h)) r
-          go (inr a) = absurd (apart k (instance (a .0)) (sym h ∙ call-answer a))
+          go (inr a) = absurd (apart k (a .0) (sym h ∙ call-answer a))
 
-    -- what an acceptance by a says: the file is accepted, the slices have room, and a is the answer about its instance
+    -- what an acceptance by a says: the file is accepted, the slices have room, and a is the answer about its job
     pub record Accepted (a : A) : Type 0 where
       pub job : Job
       pub says : readJob file ≡ accepted job
       pub has-room : HasRoom (tasks (instance job)) starts processors scratch
-      pub answer-is : a ≡ answer (instance job)
-      pub call-is : callOf ≡ laidOut answer (instance job) starts processors scratch
+      pub answer-is : a ≡ answer job
+      pub call-is : callOf ≡ planFor answer job starts processors scratch
 
     pub accepted-as : (a : A) → ((k : ℕ) → ¬ (a ≡ refuse k)) → callOf .answer ≡ a → Accepted a
     accepted-as a no-refusal h = go slices

@@ -8,6 +8,7 @@ use lib.Dec.{ltb}
 use lib.ListN.{length}
 use Rattle.base.specs.Slices.{filled}
 use Rattle.base.specs.Choice.{pick}
+use Rattle.job.specs.Job.{Job}
 use Rattle.job.specs.Read.{Answer, accepted, refused}
 use Rattle.job.specs.Cause.{ReaderNumber}
 use Rattle.etf.specs.Instance.{Instance, tasks}
@@ -42,11 +43,15 @@ module _ (I : Instance) where
 abbrev pub arrivalPlaces : ℕ
 arrivalPlaces = 4096
 
--- the planner's schedule laid out in the slices, and an answer about the instance; places past tasks and arrivals keep their content
-unfoldable pub laidOut : {A : Type 0} → (Instance → A) → Instance → List ℕ → List ℕ → List ℕ → Call A
+-- the planner's schedule of an instance laid out in the slices, and an answer; places past tasks and arrivals keep their content
+unfoldable pub laidOut : {A : Type 0} → A → Instance → List ℕ → List ℕ → List ℕ → Call A
 laidOut answer I starts processors scratch =
-    called (answer I)
+    called answer
     (filled (startOf I) (tasks I) starts) (filled (processorOf I) (tasks I) processors) (filled (scratchAt I) arrivalPlaces scratch)
+
+-- the planner's schedule of a job laid out in the slices, and an answer about the job
+abbrev pub planFor : {A : Type 0} → (Job → A) → Job → List ℕ → List ℕ → List ℕ → Call A
+planFor answer j = laidOut (answer j) (instance j)
 
 -- 01: 9, "a lent slice too short": fewer than m starts, m processors or so many places of scratch
 unfoldable pub tooShort : ℕ → ℕ → List ℕ → List ℕ → List ℕ → Bool
@@ -58,10 +63,10 @@ CallNumber k = ReaderNumber k ⊎ (k ≡ 9)
 
 -- a call by the reader's answer. 01: a refused job "is passed on with the reader's own number"; 9 for a slice too short; else it accepts.
 -- 01: "Every refusal returns its number alone and alters no lent slice"
-unfoldable pub callFor : {A : Type 0} → ℕ → (ℕ → A) → (Instance → List ℕ → List ℕ → List ℕ → Call A)
+unfoldable pub callFor : {A : Type 0} → ℕ → (ℕ → A) → (Job → List ℕ → List ℕ → List ℕ → Call A)
     → Answer → List ℕ → List ℕ → List ℕ → Call A
 callFor places refuse accept (accepted j) starts processors scratch =
     pick (tooShort places (tasks (instance j)) starts processors scratch)
     (called (refuse 9) starts processors scratch)
-    (accept (instance j) starts processors scratch)
+    (accept j starts processors scratch)
 callFor places refuse accept (refused k) starts processors scratch = called (refuse k) starts processors scratch

@@ -4,8 +4,8 @@ use mathlib.Core.Path.{_≡_}
 use mathlib.Core.List.{List}
 use Prim.Native.Nat.{ℕ}
 use Rattle.base.specs.Laws.Tests.{impossible}
+use Rattle.job.specs.Job.{Job}
 use Rattle.job.specs.Accepted.{accepted-job}
-use Rattle.etf.specs.Instance.{Instance}
 use Rattle.schedule.specs.declared.Outcome.{Outcome}
 use Rattle.schedule.specs.declared.Planned.{Planned}
 use Rattle.schedule.specs.declared.Planned.the-variants.{Plan, Refused}
@@ -21,7 +21,7 @@ pub slices-accepted : (file starts processors scratch : List ℕ) (o : Outcome) 
     → checkCall file (planCall file starts processors scratch .starts) (planCall file starts processors scratch .processors) ≡ Yes
 unfolding planCall checkCall laidOut
 slices-accepted file starts processors scratch o h =
-    let answer : Instance → Planned = λ I. Plan (outcome I) in
+    let answer : Job → Planned = λ j. Plan (outcome j) in
     let P = accepted-as file starts processors scratch Refused answer (Plan o) (λ k e. let z : false ≡ true = cc in impossible z) h in
     rw (P .call-is, P .says)
     (filled-yes (P .job) (accepted-job file (P .job) (P .says)) starts processors (P .has-room .for-starts) (P .has-room .for-processors))

@@ -21,7 +21,7 @@ use Rattle.schedule.specs.declared.planner.Pair.{Pair}
 use Rattle.schedule.specs.declared.planner.Moment.{Moment}
 use Rattle.schedule.specs.declared.planner.Choice.{Choice}
 use Rattle.schedule.specs.Call.{Call, called, arrivalPlaces, laidOut, tooShort}
-use Rattle.schedule.specs.Plan.{endOf}
+use Rattle.schedule.specs.Plan.{lastOf}
 
 -- ---- numbers and tests over a row of places
 
@@ -200,12 +200,16 @@ pub record Room (m : ℕ) (starts processors arrivals : List ℕ) : Type 0 where
 unfoldable pub shortOf : ℕ → ℕ → ℕ → ℕ → Bool
 shortOf m starts processors scratch = ltb starts m || (ltb processors m || ltb scratch 4096)
 
+-- the plan of an instance laid out, with its last finish
+abbrev pub runCall : Instance → List ℕ → List ℕ → List ℕ → Call ℕ
+runCall I = laidOut (lastOf I) I
+
 -- the plan of an instance laid out, where there is room
 unfoldable pub layCall : Instance → List ℕ → List ℕ → List ℕ → Call Laid
 layCall I starts processors scratch =
     pick (tooShort arrivalPlaces (tasks I) starts processors scratch)
     (called Short starts processors scratch)
-    (laidOut (λ J. End (endOf J)) I starts processors scratch)
+    (laidOut (End (lastOf I)) I starts processors scratch)
 
 -- ---- the checker, in terms of the arrays
 

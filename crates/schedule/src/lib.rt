@@ -49,7 +49,7 @@ pub enum Checked {
     Refused(u8),
 }
 
-// What laying a plan out gives: its end, or that a slice is too short.
+// What laying a plan out gives: its last finish, or that a slice is too short.
 pub enum Laid {
     End(u32),
     Short,

@@ -4,10 +4,9 @@ ghost use Prim.Native.Nat.{ℕ, _+_, _*_, _-_, _≤_, _<_};
 ghost use lib.ListN.{length, getD, set};
 ghost use Rattle.etf.specs.Bounds.{mostMessageTime, mostFinish};
 ghost use Rattle.schedule.specs.InArrays.{byNumber, instanceIn, Plannable};
-ghost use Rattle.schedule.specs.Call.{called, laidOut};
-ghost use Rattle.schedule.specs.Plan.{endOf};
+ghost use Rattle.schedule.specs.Call.{called};
 ghost use Rattle.schedule.specs.Pass.{Surveyed, Raised, ToSend, Sent, Skipped, Looked, ToPlace, Placed, placedMark, Room};
-ghost use Rattle.schedule.specs.Pass.{inbox, tables, firstBest, rowOf, noPair, searched};
+ghost use Rattle.schedule.specs.Pass.{inbox, tables, firstBest, rowOf, noPair, searched, runCall};
 
 // A task, a processor and the start that the task would have there; 4294967295 where there is none.
 pub struct Pair {
@@ -292,7 +291,7 @@ fn place(
     skip(waiting, low, tasks)
 }
 
-// Plans an instance, and returns the end. The arrivals begin with 4,096 zeros.
+// Plans an instance, and returns the last finish. The arrivals begin with 4,096 zeros.
 pub fn run<'a>(
     n: usize,
     tasks: usize,
@@ -308,7 +307,7 @@ pub fn run<'a>(
 ) -> u32
     requires { ⌜ Plannable (byNumber n tasks edges (now durations) (now from) (now to) (now counts) costs) ⌝ }
     requires { ⌜ Room tasks (now starts) (now processors) (now arrivals) ⌝ }
-    ensures { λ r. ⌜ called r (now (starts .exit)) (now (processors .exit)) (now (arrivals .exit)) ≡ laidOut endOf
+    ensures { λ r. ⌜ called r (now (starts .exit)) (now (processors .exit)) (now (arrivals .exit)) ≡ runCall
         (instanceIn (byNumber n tasks edges (now (durations .entry)) (now (from .entry)) (now (to .entry)) (now (counts .entry)) costs))
         (now (starts .entry)) (now (processors .entry)) (now (arrivals .entry)) ⌝ }
 {

@@ -5,7 +5,7 @@ use mathlib.Core.Path.{_≡_, sym}
 use mathlib.Core.List.{List}
 use Prim.Native.Nat.{ℕ}
 use Rattle.base.specs.Laws.Tests.{impossible}
-use Rattle.etf.specs.Instance.{Instance}
+use Rattle.job.specs.Job.{Job}
 use Rattle.etf.specs.OfJob.{instance}
 use Rattle.schedule.specs.declared.Outcome.{Outcome}
 use Rattle.schedule.specs.declared.Figures.{Figures}
@@ -19,12 +19,12 @@ use Rattle.schedule.specs.Cover.{figures, coverCall}
 use Rattle.schedule.specs.Answered.{SlicesRefused, SlicesTaken, call-refused, call-number, call-answer, call-answered, call-cause}
 use Rattle.schedule.specs.Answered.{Accepted, accepted-as}
 
--- what they answer about an instance
-abbrev pub planAnswer : Instance → Planned
-planAnswer I = Plan (outcome I)
+-- what they answer about a job
+abbrev pub planAnswer : Job → Planned
+planAnswer j = Plan (outcome j)
 
-abbrev pub coverAnswer : Instance → Covered
-coverAnswer I = Cover (figures I)
+abbrev pub coverAnswer : Job → Covered
+coverAnswer j = Cover (figures (instance j))
 
 -- ---- an answer is a refusal or not, and its number is one
 
@@ -55,10 +55,10 @@ module _ (file starts processors scratch : List ℕ) where
 
   pub plan-cause : (k : ℕ) → planCall file starts processors scratch .answer ≡ NotPlanned k → SlicesRefused file starts processors scratch k
   unfolding planCall
-  plan-cause = call-cause file starts processors scratch NotPlanned planAnswer plan-one (λ k I e. not-planned (outcome I) k (sym e))
+  plan-cause = call-cause file starts processors scratch NotPlanned planAnswer plan-one (λ k j e. not-planned (outcome j) k (sym e))
 
   pub plan-taken : (a : SlicesTaken file starts processors scratch)
-      → planCall file starts processors scratch .answer ≡ Plan (outcome (instance (a .0)))
+      → planCall file starts processors scratch .answer ≡ Plan (outcome (a .0))
   unfolding planCall
   plan-taken = call-answer file starts processors scratch NotPlanned planAnswer
 
@@ -66,7 +66,7 @@ module _ (file starts processors scratch : List ℕ) where
       ⊎ ((k : ℕ) × (planCall file starts processors scratch .answer ≡ NotPlanned k) × CallNumber k)
   unfolding planCall
   plan-answered =
-      ⊎-elim (λ a. inl (outcome (instance (a .0)), call-answer file starts processors scratch NotPlanned planAnswer a)) inr
+      ⊎-elim (λ a. inl (outcome (a .0), call-answer file starts processors scratch NotPlanned planAnswer a)) inr
       (call-answered file starts processors scratch NotPlanned planAnswer)
 
   -- what its acceptance says
@@ -77,7 +77,7 @@ module _ (file starts processors scratch : List ℕ) where
   unfolding planCall
   planned-as o h = accepted-as file starts processors scratch NotPlanned planAnswer (Plan o) (not-planned o) h
 
-  pub outcome-is : {o : Outcome} (P : PlannedAs o) → o ≡ outcome (instance (P .job))
+  pub outcome-is : {o : Outcome} (P : PlannedAs o) → o ≡ outcome (P .job)
   outcome-is P = let e = P .answer-is in cc
 
   -- ---- the cover call
@@ -95,7 +95,8 @@ module _ (file starts processors scratch : List ℕ) where
   pub cover-cause : (k : ℕ) → coverCall file starts processors scratch .answer ≡ NotCovered k
       → SlicesRefused file starts processors scratch k
   unfolding coverCall
-  cover-cause = call-cause file starts processors scratch NotCovered coverAnswer cover-one (λ k I e. not-covered (figures I) k (sym e))
+  cover-cause =
+      call-cause file starts processors scratch NotCovered coverAnswer cover-one (λ k j e. not-covered (figures (instance j)) k (sym e))
 
   pub cover-taken : (a : SlicesTaken file starts processors scratch)
       → coverCall file starts processors scratch .answer ≡ Cover (figures (instance (a .0)))

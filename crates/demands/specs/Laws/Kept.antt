@@ -50,7 +50,7 @@ slices-hold {starts = starts} {processors = processors} P T b =
     rw (P .call-is) (filled-at (startOf I) (tasks I) starts T b, filled-at (processorOf I) (tasks I) processors T b)
 
 -- two calls on the same slices leave the same in them, whatever they answer
-module _ {A B : Type 0} (refuse : ℕ → A) (answer : Instance → A) (refuse₂ : ℕ → B) (answer₂ : Instance → B)
+module _ {A B : Type 0} (refuse : ℕ → A) (answer : Job → A) (refuse₂ : ℕ → B) (answer₂ : Job → B)
     (file starts processors scratch : List ℕ) where
   abbrev first : Call A
   first = callOf file starts processors scratch refuse answer

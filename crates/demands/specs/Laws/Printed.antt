@@ -17,7 +17,7 @@ use Rattle.schedule.specs.declared.Covered.the-variants.{Cover}
 use Rattle.schedule.specs.declared.Outcome.{Outcome}
 use Rattle.schedule.specs.declared.Figures.{Figures}
 use Rattle.schedule.specs.Call.{startOf, processorOf}
-use Rattle.schedule.specs.Plan.{endOf, outcome, planCall}
+use Rattle.schedule.specs.Plan.{outcome, planCall}
 use Rattle.schedule.specs.Cover.{coverCall}
 use Rattle.schedule.specs.Cover.{figures as figuresOf}
 use Rattle.listing.specs.Listing.{refusalLine, header, taskLines, figures, planListing, listingFor, listing}
@@ -26,13 +26,13 @@ use Rattle.schedule.specs.Answered.{one-job}
 use Rattle.demands.specs.Laws.Answers.{planned-as, outcome-is, covered-as, figures-is}
 use Rattle.demands.specs.Laws.Kept.{slices-hold}
 
-pub prints : (file : List ℕ) → ((j : Job) × (readJob file ≡ accepted j) × (listing file ≡ planListing (instance j)))
+pub prints : (file : List ℕ) → ((j : Job) × (readJob file ≡ accepted j) × (listing file ≡ planListing j))
     ⊎ ((k : ℕ) × (readJob file ≡ refused k) × ReaderNumber k × (listing file ≡ refusalLine k))
 unfolding listing listingFor
 prints file = go (readJob file) refl (λ k e. read-numbers file k e)
   where
     go : (a : Answer) → readJob file ≡ a → ((k : ℕ) → readJob file ≡ refused k → ReaderNumber k)
-        → ((j : Job) × (readJob file ≡ accepted j) × (listingFor a ≡ planListing (instance j)))
+        → ((j : Job) × (readJob file ≡ accepted j) × (listingFor a ≡ planListing j))
         ⊎ ((k : ℕ) × (readJob file ≡ refused k) × ReaderNumber k × (listingFor a ≡ refusalLine k))
     go (accepted j) e n = inl (j, e, refl)
     go (refused k) e n = inr (k, e, n k e, refl)
@@ -48,7 +48,7 @@ module _ (file starts processors scratch : List ℕ) (o : Outcome) (p : planCall
       → (j : Job) × (readJob file ≡ accepted j)
       × (listing file ≡ header (j .platform .processors) (o .tasks) (length (j .edges))
       ++ (taskLines (o .tasks) processor start (λ T. getD (j .tasks) T 0) ++ figures (o .end) (f .cover) (f .dearest)))
-  unfolding listing listingFor planListing instance duration startOf processorOf outcome endOf figuresOf
+  unfolding listing listingFor planListing instance duration startOf processorOf outcome figuresOf
   prints-calls starts₂ processors₂ scratch₂ f c =
       let P = planned-as file starts processors scratch o p in
       let Q = covered-as file starts₂ processors₂ scratch₂ f c in

@@ -10,9 +10,8 @@ use borrow.Author.Tests.{lt-ltb, le-ltb}
 use lib.ListN.{length, getD, drop, replicate, length-replicate}
 use Rattle.base.specs.Laws.Tests.{impossible}
 use Rattle.job.specs.Limits.{mostTasks}
+use Rattle.job.specs.Job.{Job}
 use Rattle.job.specs.Accepted.{accepted-job}
-use Rattle.etf.specs.Instance.{Instance, tasks}
-use Rattle.etf.specs.OfJob.{instance}
 use Rattle.etf.specs.Laws.OfJob.{few}
 use Rattle.schedule.specs.declared.Outcome.{Outcome}
 use Rattle.schedule.specs.declared.Planned.{Planned}
@@ -26,8 +25,8 @@ use Rattle.kelvrist.proofs.kelvrist_plan.Statement.{statement}
 use Rattle.kelvrist.proofs.kelvrist_plan.Tie as tie
 
 -- the answer to an accepted job
-abbrev answer : Instance → Planned
-answer I = Plan (outcome I)
+abbrev answer : Job → Planned
+answer j = Plan (outcome j)
 
 -- no job that is planned has more tasks than a job may have
 few-tasks : (file starts processors scratch : List ℕ) {r : Planned} {s p t : List ℕ} {o : Outcome}
@@ -37,7 +36,7 @@ few-tasks file starts processors scratch {r} {o = o} e h =
     let answered = ap (λ (c : Call Planned). c .answer) (sym e) ∙ h in
     let P = accepted-as file starts processors scratch Refused answer (Plan o)
     (λ k d. let z : false ≡ true = cc in impossible z) answered in
-    let same : o ≡ outcome (instance (P .job)) = let d = P .answer-is in cc in
+    let same : o ≡ outcome (P .job) = let d = P .answer-is in cc in
     omega (arith, ap (λ (x : Outcome). x .tasks) same, few (P .job) (accepted-job file (P .job) (P .says)))
 
 -- over arrays of zeros: the answer r, and what they hold afterwards

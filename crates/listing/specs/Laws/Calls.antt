@@ -11,7 +11,7 @@ use Rattle.job.specs.Read.{accepted, readJob}
 use Rattle.job.specs.Accepted.{accepted-job}
 use Rattle.etf.specs.Instance.{Instance, tasks}
 use Rattle.etf.specs.OfJob.{instance}
-use Rattle.schedule.specs.Call.{Call, called, startOf, processorOf, scratchAt, arrivalPlaces, laidOut, callFor}
+use Rattle.schedule.specs.Call.{Call, called, startOf, processorOf, scratchAt, arrivalPlaces, laidOut, planFor, callFor}
 use Rattle.schedule.specs.Lent.{HasRoom}
 use Rattle.schedule.specs.Answered.{call-taken}
 
@@ -21,16 +21,16 @@ pub record Roomy (starts processors scratch : List ℕ) : Type 0 where
   pub for-processors : length processors ≡ mostTasks
   pub for-arrivals : length scratch ≡ arrivalPlaces
 
--- what a call did that returned r and left these slices: it answered about the instance, and the plan is in the slices, with room as before
-pub record LaidOut {R : Type 0} (answer : Instance → R) (I : Instance) (r : R) (starts processors scratch : List ℕ) : Type 0 where
-  pub answer-is : r ≡ answer I
-  pub start-at : (T : ℕ) → T < tasks I → getD starts T 0 ≡ startOf I T
-  pub processor-at : (T : ℕ) → T < tasks I → getD processors T 0 ≡ processorOf I T
+-- what a call did that returned r and left these slices: it answered about the job, and the plan is in the slices, with room as before
+pub record LaidOut {R : Type 0} (answer : Job → R) (j : Job) (r : R) (starts processors scratch : List ℕ) : Type 0 where
+  pub answer-is : r ≡ answer j
+  pub start-at : (T : ℕ) → T < tasks (instance j) → getD starts T 0 ≡ startOf (instance j) T
+  pub processor-at : (T : ℕ) → T < tasks (instance j) → getD processors T 0 ≡ processorOf (instance j) T
   pub room : Roomy starts processors scratch
 
-pub lays-out : {R : Type 0} (refuse : ℕ → R) (answer : Instance → R) (file : List ℕ) (j : Job) → readJob file ≡ accepted j
+pub lays-out : {R : Type 0} (refuse : ℕ → R) (answer : Job → R) (file : List ℕ) (j : Job) → readJob file ≡ accepted j
     → {s p t s′ p′ t′ : List ℕ} {r : R} → Roomy s p t
-    → called r s′ p′ t′ ≡ callFor arrivalPlaces refuse (laidOut answer) (readJob file) s p t → LaidOut answer (instance j) r s′ p′ t′
+    → called r s′ p′ t′ ≡ callFor arrivalPlaces refuse (planFor answer) (readJob file) s p t → LaidOut answer j r s′ p′ t′
 unfolding laidOut instance
 lays-out {R} refuse answer file j says {s} {p} {t} {s′} {p′} {t′} {r} room h = record {
   answer-is = ap (λ (c : Call R). c .answer) accepts;
@@ -59,5 +59,5 @@ lays-out {R} refuse answer file j says {s} {p} {t} {s′} {p′} {t′} {r} room
           for-scratch = omega (arith, room .for-arrivals);
         }
 
-    accepts : called r s′ p′ t′ ≡ laidOut answer I s p t
+    accepts : called r s′ p′ t′ ≡ planFor answer j s p t
     accepts = h ∙ call-taken file s p t refuse answer (j, says, fits)

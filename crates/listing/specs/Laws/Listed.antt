@@ -17,7 +17,7 @@ use Rattle.job.specs.Job.{Job}
 use Rattle.job.specs.Read.{accepted, readJob, readingOf, verdictNumber}
 use Rattle.job.specs.Accepted.{Accepted, accepted-job, counted, refused-is, laid-out}
 use Rattle.etf.specs.Instance.{Instance, tasks, duration}
-use Rattle.etf.specs.Schedule.{placementOf, end}
+use Rattle.etf.specs.Schedule.{placementOf}
 use Rattle.etf.specs.Rule.{planned}
 use Rattle.etf.specs.OfJob.{instance}
 use Rattle.etf.specs.Jobs.{well-formed, no-finish-passes}
@@ -125,14 +125,14 @@ module _ (file : List ℕ) {x : Reading} {m l : ℕ} (e : x ≡ readingOf (readJ
   module _ {q : Planned} {c : Covered} (s₀ p₀ t₀ : List ℕ) {s₁ p₁ t₁ s p t : List ℕ}
       (a : length s₀ ≡ mostTasks) (b : length p₀ ≡ mostTasks) (d : length t₀ ≡ arrivalPlaces)
       (plans : called q s₁ p₁ t₁ ≡ planCall file s₀ p₀ t₀) (covers : called c s p t ≡ coverCall file s₁ p₁ t₁) where
-    by-planner : LaidOut (λ i. Plan (outcome i)) I q s₁ p₁ t₁
+    by-planner : LaidOut (λ j. Plan (outcome j)) job q s₁ p₁ t₁
     unfolding planCall
     by-planner =
-        lays-out NotPlanned (λ i. Plan (outcome i)) file job says (record { for-starts = a; for-processors = b; for-arrivals = d }) plans
+        lays-out NotPlanned (λ j. Plan (outcome j)) file job says (record { for-starts = a; for-processors = b; for-arrivals = d }) plans
 
-    by-cover : LaidOut (λ i. Cover (figuresOf i)) I c s p t
+    by-cover : LaidOut (λ j. Cover (figuresOf (instance j))) job c s p t
     unfolding coverCall
-    by-cover = lays-out NotCovered (λ i. Cover (figuresOf i)) file job says (by-planner .room) covers
+    by-cover = lays-out NotCovered (λ j. Cover (figuresOf (instance j))) file job says (by-planner .room) covers
 
     -- the arrays that the lines are read from are long enough
     pub arrays-reach : (m ≤ length (x .arrays .durations)) × (m ≤ length s) × (m ≤ length p)
@@ -142,8 +142,8 @@ module _ (file : List ℕ) {x : Reading} {m l : ℕ} (e : x ≡ readingOf (readJ
       omega (arith, few-tasks, by-cover .room .for-processors),
     )
 
-    end-is : endIn q ≡ end I (planned I)
-    unfolding outcome endOf
+    end-is : endIn q ≡ endOf job
+    unfolding outcome
     end-is = ap endIn (by-planner .answer-is)
 
     figures-are : figuresIn c ≡ figuresOf I

@@ -1,9 +1,10 @@
 -- `cover` passes the reader's number on, refuses by 9 where `lay_out` finds a slice too short, and else measures what it laid out.
 use borrow.Author.Needs.{needs}
-use Rattle.etf.specs.Instance.{Instance}
+use Rattle.job.specs.Job.{Job}
+use Rattle.etf.specs.OfJob.{instance}
 use Rattle.schedule.specs.declared.Covered.{Covered}
 use Rattle.schedule.specs.declared.Covered.the-variants.{Cover, Refused}
-use Rattle.schedule.specs.Call.{arrivalPlaces, laidOut}
+use Rattle.schedule.specs.Call.{arrivalPlaces, planFor}
 use Rattle.schedule.specs.Cover.{figures, coverCall}
 use Rattle.schedule.specs.Laws.Reading.{read-as, wired, instance-held, plannable}
 use Rattle.schedule.specs.Laws.Calls.{passes-on, call-short, call-end, laid-holds, measured-right}
@@ -11,8 +12,8 @@ use Rattle.schedule.proofs.cover.Statement.{statement}
 use Rattle.schedule.proofs.cover.Tie as tie
 
 -- the answer to an accepted job
-abbrev answer : Instance → Covered
-answer I = Cover (figures I)
+abbrev answer : Job → Covered
+answer j = Cover (figures (instance j))
 
 -- ---- the places
 
@@ -47,7 +48,7 @@ returns : tie.Need-returns
 unfolding coverCall
 returns c =
     passes-on _ (c .before .before .before .read .ensures) (c .before .enum-told .given .1) (c .number .ensures)
-    arrivalPlaces Refused (laidOut answer) _ _ _
+    arrivalPlaces Refused (planFor answer) _ _ _
 
 index-requires : tie.Need-index-requires
 index-requires c κs = search needs

@@ -1,9 +1,9 @@
 -- `plan` passes the reader's number on, refuses by 9 where `lay_out` finds a slice too short, and else answers with the end that it gives.
 use borrow.Author.Needs.{needs}
-use Rattle.etf.specs.Instance.{Instance}
+use Rattle.job.specs.Job.{Job}
 use Rattle.schedule.specs.declared.Planned.{Planned}
 use Rattle.schedule.specs.declared.Planned.the-variants.{Plan, Refused}
-use Rattle.schedule.specs.Call.{arrivalPlaces, laidOut}
+use Rattle.schedule.specs.Call.{arrivalPlaces, planFor}
 use Rattle.schedule.specs.Plan.{outcome, planCall}
 use Rattle.schedule.specs.Laws.Reading.{read-as, wired, instance-held, plannable}
 use Rattle.schedule.specs.Laws.Calls.{passes-on, call-short, call-end, planned-right}
@@ -11,8 +11,8 @@ use Rattle.schedule.proofs.plan.Statement.{statement}
 use Rattle.schedule.proofs.plan.Tie as tie
 
 -- the answer to an accepted job
-abbrev answer : Instance → Planned
-answer I = Plan (outcome I)
+abbrev answer : Job → Planned
+answer j = Plan (outcome j)
 
 -- ---- the places
 
@@ -41,7 +41,7 @@ returns : tie.Need-returns
 unfolding planCall
 returns c =
     passes-on _ (c .before .before .before .read .ensures) (c .before .enum-told .given .1) (c .number .ensures)
-    arrivalPlaces Refused (laidOut answer) _ _ _
+    arrivalPlaces Refused (planFor answer) _ _ _
 
 index-requires : tie.Need-index-requires
 index-requires c κs = search needs

@@ -14,9 +14,10 @@ use Rattle.base.specs.Slices.{filled}
 use Rattle.base.specs.Laws.Tests.{impossible}
 use Rattle.base.specs.Laws.Filled.{filled-length, filled-at, filled-filled}
 use Rattle.job.specs.declared.Reading.{Reading}
+use Rattle.job.specs.Job.{Job}
 use Rattle.job.specs.Read.{refused, readJob, readingOf, verdictNumber}
 use Rattle.etf.specs.Instance.{Instance, tasks}
-use Rattle.etf.specs.Schedule.{scheduleOf}
+use Rattle.etf.specs.Schedule.{scheduleOf, end}
 use Rattle.etf.specs.Cover.{cover}
 use Rattle.etf.specs.Dearest.{dearest}
 use Rattle.etf.specs.Checker.{Because, no-processor, too-late, overlaps, too-early}
@@ -29,11 +30,11 @@ use Rattle.schedule.specs.declared.Covered.the-variants.{Cover}
 use Rattle.schedule.specs.declared.Laid.{Laid}
 use Rattle.schedule.specs.declared.Laid.the-variants.{End, Short}
 use Rattle.schedule.specs.InArrays.{InArrays, instanceIn, Plannable}
-use Rattle.schedule.specs.Call.{Call, called, startOf, processorOf, scratchAt, arrivalPlaces, laidOut, tooShort, callFor}
-use Rattle.schedule.specs.Plan.{endOf, outcome}
+use Rattle.schedule.specs.Call.{Call, called, startOf, processorOf, scratchAt, arrivalPlaces, laidOut, planFor, tooShort, callFor}
+use Rattle.schedule.specs.Plan.{lastOf, endOf, outcome}
 use Rattle.schedule.specs.Cover.{figures}
 use Rattle.schedule.specs.Check.{checkOf, checkedAs, numberOf, checkFor, checkCall}
-use Rattle.schedule.specs.Pass.{Room, shortOf, layCall}
+use Rattle.schedule.specs.Pass.{Room, shortOf, runCall, layCall}
 use Rattle.job.specs.Accepted.{refused-is}
 use Rattle.schedule.specs.CoverPass.{HoldsPlan}
 use Rattle.schedule.specs.Laws.Held.{held-tasks}
@@ -112,7 +113,7 @@ module _ {A : InArrays} (F : Plannable A) where
     -- a plan laid out over a cleared scratch
     pub laid-end : {t : Bool} {r : ℕ} {starts′ processors′ cleared scratch′ : List ℕ}
         → t ≡ shortOf (A .tasks) (length starts) (length processors) (length scratch) → t ≡ false
-        → cleared ≡ filled (λ x. 0) 4096 scratch → called r starts′ processors′ scratch′ ≡ laidOut endOf I starts processors cleared
+        → cleared ≡ filled (λ x. 0) 4096 scratch → called r starts′ processors′ scratch′ ≡ runCall I starts processors cleared
         → called (End r) starts′ processors′ scratch′ ≡ layCall I starts processors scratch
     unfolding layCall laidOut
     laid-end e w f R =
@@ -129,7 +130,7 @@ module _ {A : InArrays} (F : Plannable A) where
       where
         go : (x : Bool) → ltb (length starts) (tasks I) ≡ x → (y : Bool) → ltb (length processors) (tasks I) ≡ y → (z : Bool)
             → called (End e) starts′ processors′ scratch′
-            ≡ pick (x || (y || z)) (called Short starts processors scratch) (laidOut (λ i. End (endOf i)) I starts processors scratch)
+            ≡ pick (x || (y || z)) (called Short starts processors scratch) (laidOut (End (lastOf I)) I starts processors scratch)
             → HoldsPlan I (A .tasks) starts′ processors′
         go true p y q z h = clash (sym (ap (λ (c : Call Laid). c .answer) h))
         go false p true q z h = clash (sym (ap (λ (c : Call Laid). c .answer) h))
@@ -155,7 +156,7 @@ module _ (file : List ℕ) {x : Reading} (e : x ≡ readingOf (readJob file)) {k
   file-refused : readJob file ≡ refused n
   file-refused = refused-is (readJob file) (ap (λ (r : Reading). r .verdict) (sym e) ∙ v) ∙ ap refused (sym (g ∙ rw v))
 
-  pub passes-on : {R : Type 0} (places : ℕ) (refuse : ℕ → R) (accept : Instance → List ℕ → List ℕ → List ℕ → Call R)
+  pub passes-on : {R : Type 0} (places : ℕ) (refuse : ℕ → R) (accept : Job → List ℕ → List ℕ → List ℕ → Call R)
       (starts processors scratch : List ℕ)
       → called (refuse n) starts processors scratch ≡ callFor places refuse accept (readJob file) starts processors scratch
   unfolding callFor
@@ -175,10 +176,15 @@ module _ {file : List ℕ} {x : Reading} {m l : ℕ} (K : Read file x m l) where
   unfolding instance
   tasks-is = K .tasks-are
 
-  -- the planner's answer, by the end that was found
-  pub planned-right : {e : ℕ} → e ≡ endOf J → Plan (record { tasks = m; end = e }) ≡ Plan (outcome J)
+  -- the end is the last finish
+  end-is : lastOf J ≡ endOf (K .job)
+  unfolding lastOf endOf end
+  end-is = refl
+
+  -- the planner's answer, by the last finish that was found
+  pub planned-right : {e : ℕ} → e ≡ lastOf J → Plan (record { tasks = m; end = e }) ≡ Plan (outcome (K .job))
   unfolding outcome
-  planned-right e-is = rw (e-is, tasks-is)
+  planned-right e-is = rw (e-is, end-is, tasks-is)
 
   pub check-no-starts : (starts processors : List ℕ) → length starts < m → NotChecked 9 ≡ checkCall file starts processors
   unfolding checkCall checkFor
@@ -191,36 +197,36 @@ module _ {file : List ℕ} {x : Reading} {m l : ℕ} (K : Read file x m l) where
 
   -- the instance that was held in arrays
   module _ {H : Instance} (same : H ≡ J) where
-    -- a call that lays the plan out, whatever it answers: 9 for a slice that is too short, or its answer about the instance
-    module _ {R : Type 0} (refuse : ℕ → R) (answer : Instance → R)
+    -- a call that lays the plan out, whatever it answers: 9 for a slice that is too short, or its answer about the job
+    module _ {R : Type 0} (refuse : ℕ → R) (answer : Job → R)
         (starts processors scratch : List ℕ) {starts′ processors′ scratch′ : List ℕ} where
       pub call-short : {laid : Laid} → laid ≡ Short → called laid starts′ processors′ scratch′ ≡ layCall H starts processors scratch
           → called (refuse 9) starts′ processors′ scratch′
-          ≡ callFor arrivalPlaces refuse (laidOut answer) (readJob file) starts processors scratch
+          ≡ callFor arrivalPlaces refuse (planFor answer) (readJob file) starts processors scratch
       unfolding callFor layCall laidOut
       call-short is e = rw (K .says) (go (tooShort arrivalPlaces (tasks J) starts processors scratch) (rw (is, same) at e))
         where
           go : (b : Bool)
               → called Short starts′ processors′ scratch′
-              ≡ pick b (called Short starts processors scratch) (laidOut (λ i. End (endOf i)) J starts processors scratch)
+              ≡ pick b (called Short starts processors scratch) (laidOut (End (lastOf J)) J starts processors scratch)
               → called (refuse 9) starts′ processors′ scratch′
-              ≡ pick b (called (refuse 9) starts processors scratch) (laidOut answer J starts processors scratch)
+              ≡ pick b (called (refuse 9) starts processors scratch) (planFor answer (K .job) starts processors scratch)
           go true h = ap (λ (c : Call Laid). called (refuse 9) (c .starts) (c .processors) (c .scratch)) h
           go false h = clash (ap (λ (c : Call Laid). c .answer) h)
 
       pub call-end : {laid : Laid} {e : ℕ} {r : R} → laid ≡ End e
           → called laid starts′ processors′ scratch′ ≡ layCall H starts processors scratch
-          → (e ≡ endOf J → r ≡ answer J)
-          → called r starts′ processors′ scratch′ ≡ callFor arrivalPlaces refuse (laidOut answer) (readJob file) starts processors scratch
+          → (e ≡ lastOf J → r ≡ answer (K .job))
+          → called r starts′ processors′ scratch′ ≡ callFor arrivalPlaces refuse (planFor answer) (readJob file) starts processors scratch
       unfolding callFor layCall laidOut
       call-end {laid} {e} {r} is w right =
           rw (K .says) (go (tooShort arrivalPlaces (tasks J) starts processors scratch) (rw (is, same) at w))
         where
           go : (b : Bool)
               → called (End e) starts′ processors′ scratch′
-              ≡ pick b (called Short starts processors scratch) (laidOut (λ i. End (endOf i)) J starts processors scratch)
+              ≡ pick b (called Short starts processors scratch) (laidOut (End (lastOf J)) J starts processors scratch)
               → called r starts′ processors′ scratch′
-              ≡ pick b (called (refuse 9) starts processors scratch) (laidOut answer J starts processors scratch)
+              ≡ pick b (called (refuse 9) starts processors scratch) (planFor answer (K .job) starts processors scratch)
           go true h = clash (sym (ap (λ (c : Call Laid). c .answer) h))
           go false h =
               ap (λ (c : Call Laid). called r (c .starts) (c .processors) (c .scratch)) h

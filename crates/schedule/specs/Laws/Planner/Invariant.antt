@@ -21,9 +21,8 @@ use Rattle.etf.specs.Laws.Sound.{Sound, Opened, sound-start, sound-run}
 use Rattle.schedule.specs.declared.planner.Pair.{Pair}
 use Rattle.schedule.specs.declared.planner.Choice.{Choice}
 use Rattle.schedule.specs.InArrays.{InArrays, instanceIn, Plannable}
-use Rattle.schedule.specs.Call.{called, laidOut}
-use Rattle.schedule.specs.Plan.{endOf}
-use Rattle.schedule.specs.Pass.{Looked, never, Sent, ToSend, ToPlace, Placed, Room, Tables, marked}
+use Rattle.schedule.specs.Call.{called}
+use Rattle.schedule.specs.Pass.{Looked, never, Sent, ToSend, ToPlace, Placed, Room, runCall, Tables, marked}
 use Rattle.schedule.specs.Laws.Held.{held-tasks, timed, within, edges-there, well}
 use Rattle.schedule.specs.Laws.Held.{no-clock-passes, no-finish-passes, no-arrival-passes}
 use Rattle.schedule.specs.Laws.Planner.Simulation.{state, neverOr, pairOf, InStep, Untouched}
@@ -78,7 +77,7 @@ module _ {A : InArrays} (F : Plannable A) {starts₀ processors₀ arrivals₀ :
 
     -- all tasks are placed
     pub holds-last : A .tasks ≤ low
-        → called e (S .starts) (S .processors) (S .inbox .arrivals) ≡ laidOut endOf I starts₀ processors₀ arrivals₀
+        → called e (S .starts) (S .processors) (S .inbox .arrivals) ≡ runCall I starts₀ processors₀ arrivals₀
     holds-last h =
         finished (Y .in-step) F sound (omega (arith, Y .few-rounds, held-tasks F)) (Y .ran)
         (omega (arith, Y .in-step .low-most)) R (Y .untouched)

@@ -19,7 +19,7 @@ use Rattle.base.specs.Laws.Most.{most-same, most-max, most-none, until, most-un
 use Rattle.graph.specs.Graph.{Runs}
 use Rattle.job.specs.Write.{edgeHeld}
 use Rattle.etf.specs.Instance.{Instance, tasks, messageTime}
-use Rattle.etf.specs.Schedule.{Placement, placed, placementOf, finish, messageTimeTo, reach, lastFinish, end}
+use Rattle.etf.specs.Schedule.{Placement, placed, placementOf, finish, messageTimeTo, reach, lastFinish}
 use Rattle.etf.specs.Laws.Placements.{placement-head, placement-tail, placed-head, placed-more, placed-less, placement-of}
 use Rattle.etf.specs.Laws.Turn.{free-of, NewPlacement}
 use Rattle.etf.specs.Laws.Sound.{Sound}
@@ -242,7 +242,7 @@ module _ {A : InArrays} (F : Plannable A) {cm : ℕ} {ps : List Placement} {u : 
         pub progress : InStep A cm (u ∷ ps)
             (tables (set (S .starts) (u .task) (u .start)) (set (S .processors) (u .task) (u .processor)) busy′ B)
             low′ (max e (finish I u))
-        unfolding end lastFinish greatest
+        unfolding lastFinish greatest
         progress = record {
           start-at = at-task (S .starts) (u .start) (λ v. v .start) room-starts refl (Q .start-at);
           processor-at = at-task (S .processors) (u .processor) (λ v. v .processor) room-processors refl (Q .processor-at);
@@ -256,7 +256,7 @@ module _ {A : InArrays} (F : Plannable A) {cm : ℕ} {ps : List Placement} {u : 
           low-most = Z .to-most;
           below-low = λ i h. low-placed i h (le-or-lt low i);
           at-low = λ h. fails (placed (u ∷ ps) (A .order low′)) (λ t. Z .left h (waiting-placed′ (A .order low′) t));
-          end-is = omega (arith, Q .end-is);
+          last-is = omega (arith, Q .last-is);
         }
           where
             others : (v : Placement) → v ∈ ps → (finish I v ≤ cm) ⊎ (finish I v ≡ getD busy′ (v .processor) 0)

@@ -13,7 +13,7 @@ use Rattle.base.specs.Lists.{_∈_}
 use Rattle.base.specs.Rows.{sum, one-if, most}
 use Rattle.job.specs.Write.{edgeHeld}
 use Rattle.etf.specs.Instance.{Instance, tasks}
-use Rattle.etf.specs.Schedule.{Placement, placed, placementOf, finish, reach, end}
+use Rattle.etf.specs.Schedule.{Placement, placed, placementOf, finish, reach, lastFinish}
 use Rattle.etf.specs.Rule.{State}
 use Rattle.schedule.specs.declared.planner.Pair.{Pair}
 use Rattle.schedule.specs.InArrays.{InArrays, instanceIn}
@@ -58,7 +58,7 @@ module _ (A : InArrays) where
   unfoldable pub finishedBy : List Placement → ℕ → ℕ → ℕ
   finishedBy ps T k = pick (sends (A .from) (A .to) ps T k) (finish I (placementOf ps (getD (A .from) k 0))) 0
 
-  -- the simulation relation: the clock cm and the placements ps of the rule, and the planner's tables, place in the order and end
+  -- the simulation relation: the clock cm and the placements ps of the rule, and the planner's tables, place in the order and last finish
   pub record InStep (cm : ℕ) (ps : List Placement) (S : Tables) (low e : ℕ) : Type 0 where
     -- the starts and processors of the placed tasks
     pub start-at : (T : ℕ) → Holds (placed ps T) → getD (S .starts) T 0 ≡ placementOf ps T .start
@@ -80,7 +80,7 @@ module _ (A : InArrays) where
     pub below-low : (i : ℕ) → i < low → Holds (placed ps (A .order i))
     pub at-low : low < A .tasks → Holds (not (placed ps (A .order low)))
     -- the greatest finish
-    pub end-is : e ≡ end I ps
+    pub last-is : e ≡ lastFinish I ps
 
   -- what a round leaves alone: the places past the tasks, and the arrivals where there is no task or no processor
   pub record Untouched (starts₀ processors₀ arrivals₀ starts processors arrivals : List ℕ) : Type 0 where

@@ -18,15 +18,15 @@ use Rattle.base.specs.Laws.Most.{most-none}
 use Rattle.base.specs.Laws.Filled.{is-filled}
 use Rattle.graph.specs.Graph.{edgesTo}
 use Rattle.etf.specs.Instance.{Instance, tasks}
-use Rattle.etf.specs.Schedule.{Placement, placed, placementOf, finish, arrival, lastFinish, end}
+use Rattle.etf.specs.Schedule.{Placement, placed, placementOf, finish, arrival, lastFinish}
 use Rattle.etf.specs.Rule.{begin, run, complete, planned}
 use Rattle.etf.specs.Laws.Placements.{placement-of}
 use Rattle.etf.specs.Laws.Rounds.{complete-at, planned-by}
 use Rattle.etf.specs.Laws.Sound.{Sound, Opened}
 use Rattle.schedule.specs.InArrays.{InArrays, instanceIn, Plannable}
 use Rattle.schedule.specs.Call.{called, startOf, processorOf, scratchAt, arrivalPlaces, laidOut}
-use Rattle.schedule.specs.Plan.{endOf}
-use Rattle.schedule.specs.Pass.{Room, Tables}
+use Rattle.schedule.specs.Plan.{lastOf}
+use Rattle.schedule.specs.Pass.{Room, runCall, Tables}
 use Rattle.schedule.specs.Laws.Held.{held-tasks, held-few, well}
 use Rattle.schedule.specs.Laws.Planner.Simulation.{reached, finishedBy, awaited, InStep, Untouched, state}
 use Rattle.schedule.specs.Laws.Planner.ReadOff.{arrival-is, complete-is}
@@ -39,7 +39,7 @@ pub progress-start : {A : InArrays} → Plannable A → {S : Tables}
     → ((T : ℕ) → T < 256 → getD (S .inbox .waiting) T 0 ≡ edgesTo (A .to) (A .edges) T)
     → ((T : ℕ) → getD (S .inbox .latest) T 0 ≡ 0) → ((P : ℕ) → getD (S .busy) P 0 ≡ 0)
     → InStep A 0 [] S 0 0
-unfolding instanceIn placed any reached finishedBy awaited edgesTo end lastFinish greatest
+unfolding instanceIn placed any reached finishedBy awaited edgesTo lastFinish greatest
 progress-start {A} F arrivals-none waiting-all latest-none busy-none = record {
   start-at = λ T h. absurd h;
   processor-at = λ T h. absurd h;
@@ -57,7 +57,7 @@ progress-start {A} F arrivals-none waiting-all latest-none busy-none = record {
   low-most = omega arith;
   below-low = λ T h. absurd (omega arith);
   at-low = λ h. tt;
-  end-is = refl;
+  last-is = refl;
 }
 
 pub untouched-start : {A : InArrays} {starts processors arrivals : List ℕ}
@@ -94,7 +94,7 @@ module _ {A : InArrays} {cm : ℕ} {ps : List Placement} {S : Tables} {low e : �
     low-most = Q .low-most;
     below-low = Q .below-low;
     at-low = Q .at-low;
-    end-is = Q .end-is;
+    last-is = Q .last-is;
   }
     where
       go : (u : Placement) → (finish I u ≤ cm) ⊎ (finish I u ≡ getD (S .busy) (u .processor) 0)
@@ -182,6 +182,6 @@ module _ {A : InArrays} {cm : ℕ} {ps : List Placement} {S : Tables} {low e : �
     arrivals-are : arrivals ≡ filled (scratchAt I) arrivalPlaces arrivals₀
     arrivals-are = is-filled (scratchAt I) arrivalPlaces arrivals₀ arrivals (R .for-arrivals) (N .arrivals-size) scratch-is scratch-past
 
-    pub finished : called e (S .starts) (S .processors) arrivals ≡ laidOut endOf I starts₀ processors₀ arrivals₀
-    unfolding laidOut endOf
-    finished = rw (starts-are, processors-are, arrivals-are, Q .end-is, plan-is)
+    pub finished : called e (S .starts) (S .processors) arrivals ≡ runCall I starts₀ processors₀ arrivals₀
+    unfolding laidOut lastOf
+    finished = rw (starts-are, processors-are, arrivals-are, Q .last-is, plan-is)
