@@ -13,7 +13,7 @@ use Rattle.job.specs.Job.{Job}
 use Rattle.job.specs.Record.{kindOf}
 use Rattle.job.specs.Read.{accepted, refused, readJob, readingOf}
 use Rattle.job.specs.Cause.{Cause, ReaderNumber, Reached}
-use Rattle.job.specs.Write.{fileOf, heldJob, Held, writeAnswer, writeOut}
+use Rattle.job.specs.Write.{fileOf, heldJob, Held, writeAnswer, WriterNumber, writeOut}
 use Rattle.job.specs.Refusal.{read-refused, write-refused}
 use Rattle.etf.specs.Instance.{tasks}
 use Rattle.etf.specs.Schedule.{scheduleOf}
@@ -126,14 +126,14 @@ module _ (file : List ℕ) where
   pub checker-returns-passed : (plan : List ℕ) (k : ℕ) → readJob file ≡ refused k → checkBytesCall file plan ≡ k
   checker-returns-passed plan k e = check-passes-on file plan k e
 
--- ---- the writer, for a job held as numbers: it writes, or refuses by 3 to 7 or 9
+-- ---- the writer, for a job held as numbers: it writes, or refuses by its numbers
 
 module _ (p : Platform) (m l : ℕ) (a : Arrays) (out : List ℕ) (h : Held a) where
   abbrev held : Job
   held = heldJob p m l a
 
   pub writer-answers : (writeAnswer m l held out ≡ Length (length (fileOf held)))
-      ⊎ ((k : ℕ) × (writeAnswer m l held out ≡ NotWritten k) × (((3 ≤ k) × (k ≤ 7)) ⊎ (k ≡ 9)))
+      ⊎ ((k : ℕ) × (writeAnswer m l held out ≡ NotWritten k) × WriterNumber k)
   writer-answers = write-answers p m l a out h
 
   -- 5 for a count too large, the reader's number for the job's file, or 9 for too little room, each only with its condition

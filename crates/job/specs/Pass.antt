@@ -19,7 +19,7 @@ use Rattle.job.specs.declared.parse.FoundRack.{FoundRack}
 use Rattle.job.specs.declared.parse.FoundStep.{FoundStep}
 use Rattle.job.specs.declared.parse.FoundLink.{FoundLink}
 use Rattle.job.specs.declared.parse.FoundWire.{FoundWire}
-use Rattle.job.specs.declared.parse.WirePass.{WirePass}
+use Rattle.job.specs.declared.parse.Passage.{Passage}
 use Rattle.job.specs.declared.record.Pair.{Pair}
 use Rattle.job.specs.Job.{Edge, Wire, Job, blank, withRack, withWires, withTasks, withEdges}
 use Rattle.job.specs.Record.{Kind, step, link, end, wire, kindOf, empty, stands, platformInRange, durationInRange, countInRange}
@@ -208,7 +208,7 @@ pub record WiresTaken (file : List ℕ) (p : Platform) (costs : List ℕ) (next 
   pub spare : wireArray (map (wireHeld costs) (wirePairs p)) ≡ costs
 
 -- the wires from place `at` on: the trouble that was met, or 0 and what is left to judge is the file from `next` on, with these wires more
-pub record WiresPassed (file : List ℕ) (at : ℕ) (p : Platform) (costs : List ℕ) (r : WirePass) : Type 0 where
+pub record WiresPassed (file : List ℕ) (at : ℕ) (p : Platform) (costs : List ℕ) (r : Passage) : Type 0 where
   pub answer : records (drop at file) 0 (withRack blank p)
       ≡ refusedOr (r .trouble) (records (drop (r .next) file) 0 (withWires (withRack blank p) (map (wireHeld costs) (wirePairs p))))
   pub taken : r .trouble ≡ 0 → WiresTaken file p costs (r .next)

@@ -13,7 +13,7 @@ use Rattle.job.specs.Limits.{mostTasks, mostEdges}
 use Rattle.job.specs.Record.{kindOf}
 use Rattle.job.specs.Read.{refused, readJob}
 use Rattle.job.specs.Cause.{Cause, ReaderNumber, Reached}
-use Rattle.job.specs.Write.{fileOf, heldJob, Held, writeAnswer}
+use Rattle.job.specs.Write.{fileOf, heldJob, Held, writeAnswer, WriterNumber}
 use Rattle.job.specs.Laws.Met.{writer-numbers}
 use Rattle.job.specs.Laws.Halt.{halts-at, reader-number, cause-number, many-counts, count-refused, room-refused}
 
@@ -40,7 +40,7 @@ unfolding writeAnswer
 write-refused m l n j out e = ⊎-elim (λ h. inl (h .0, many-counts m l (h .1)))
     (λ h. inr (room-refused n (fileOf j) out (readJob (fileOf j)) h)) (count-refused m l n _ e)
 
--- the writer's numbers are 3 to 7 and 9
+-- the writer refuses by its numbers
 pub write-numbers : (p : Platform) (m l : ℕ) (a : Arrays) (out : List ℕ) (n : ℕ) → Held a →
-    writeAnswer m l (heldJob p m l a) out ≡ Refused n → ((3 ≤ n) × (n ≤ 7)) ⊎ (n ≡ 9)
+    writeAnswer m l (heldJob p m l a) out ≡ Refused n → WriterNumber n
 write-numbers p m l a out n h e = writer-numbers p m l a out n h e

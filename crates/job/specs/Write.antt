@@ -1,8 +1,9 @@
 -- The writer: the file of a job, and what `write` returns and leaves in the borrowed slice.
 use mathlib.Core.Bool.{Bool, _||_}
+use mathlib.Core.Logic.{_⊎_}
 use mathlib.Core.Path.{_≡_}
 use mathlib.Core.List.{List, [], _∷_, _++_, map, flatMap}
-use Prim.Native.Nat.{ℕ, _+_, _*_, _^_, _<_}
+use Prim.Native.Nat.{ℕ, _+_, _*_, _^_, _≤_, _<_}
 use lib.Dec.{ltb}
 use lib.ListN.{length, getD, drop}
 use Rattle.base.specs.Lists.{values}
@@ -83,6 +84,10 @@ tooMany m l = ltb mostTasks m || ltb mostEdges l
 -- as the reader would meet its records: as it answers to the file of the job
 unfoldable pub writeAnswer : ℕ → ℕ → Job → List ℕ → Written
 writeAnswer m l j out = pick (tooMany m l) (Refused 5) (roomFor (fileOf j) out (readJob (fileOf j)))
+
+-- the writer's numbers (01: the refusal table): 3 to 7 and 9
+unfoldable pub WriterNumber : ℕ → Type 0
+WriterNumber n = ((3 ≤ n) × (n ≤ 7)) ⊎ (n ≡ 9)
 
 -- the output afterwards: the file where the job was written, and what it held everywhere else
 unfoldable pub writeOut : Written → Job → List ℕ → List ℕ

@@ -34,8 +34,8 @@ pub struct FoundWire {
     pub next: usize,
 }
 
-// The trouble that the pass over the wires met, or 0 with the place after them.
-pub struct WirePass {
+// The trouble that a pass met that keeps no count, or 0 with the place after it.
+pub struct Passage {
     pub trouble: u8,
     pub next: usize,
 }
@@ -191,12 +191,12 @@ fn early(file: &[u8], at: usize) -> u8
 }
 
 // The wires from `start` on: one for each pair under topology 3, none under another.
-pub fn wires(file: &[u8], start: usize, platform: Platform, costs: &mut [u8; 256]) -> WirePass
+pub fn wires(file: &[u8], start: usize, platform: Platform, costs: &mut [u8; 256]) -> Passage
     requires { ⌜ (start ≤ length (now file)) × Holds (platformInRange platform) × (now costs ≡ wireArray []) ⌝ }
     ensures { λ r. ⌜ WiresPassed (now (file .entry)) start platform (now (costs .exit)) r ⌝ }
 {
     if platform.topology != 3 {
-        return WirePass {
+        return Passage {
             trouble: 0,
             next: start,
         };
@@ -207,7 +207,7 @@ pub fn wires(file: &[u8], start: usize, platform: Platform, costs: &mut [u8; 256
     while stands(file, at, 5) {
         let wire = wire(file, at, n, due);
         if wire.trouble != 0 {
-            return WirePass {
+            return Passage {
                 trouble: wire.trouble,
                 next: at,
             };
@@ -217,12 +217,12 @@ pub fn wires(file: &[u8], start: usize, platform: Platform, costs: &mut [u8; 256
         at = wire.next;
     }
     if due.from < n {
-        return WirePass {
+        return Passage {
             trouble: early(file, at),
             next: at,
         };
     }
-    WirePass {
+    Passage {
         trouble: 0,
         next: at,
     }

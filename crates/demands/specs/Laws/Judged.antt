@@ -18,7 +18,7 @@ use Rattle.job.specs.declared.Written.{Written}
 use Rattle.job.specs.declared.Written.the-variants.{Length, Refused as NotWritten}
 use Rattle.job.specs.Job.{Job}
 use Rattle.job.specs.Read.{Answer, accepted, refused, readJob, readingOf}
-use Rattle.job.specs.Write.{fileOf, heldJob, Held, roomFor, tooMany, writeAnswer, writeOut}
+use Rattle.job.specs.Write.{fileOf, heldJob, Held, roomFor, tooMany, writeAnswer, WriterNumber, writeOut}
 use Rattle.job.specs.Cause.{ReaderNumber}
 use Rattle.job.specs.Refusal.{read-numbers, write-numbers}
 use Rattle.etf.specs.Instance.{Instance, tasks}
@@ -177,7 +177,7 @@ module _ (p : Platform) (m l : ℕ) (a : Arrays) (out : List ℕ) (h : Held a) w
   answer = writeAnswer m l (heldJob p m l a) out
 
   pub write-answers : (answer ≡ Length (length (fileOf (heldJob p m l a))))
-      ⊎ ((k : ℕ) × (answer ≡ NotWritten k) × (((3 ≤ k) × (k ≤ 7)) ⊎ (k ≡ 9)))
+      ⊎ ((k : ℕ) × (answer ≡ NotWritten k) × WriterNumber k)
   write-answers =
       ⊎-elim inl (λ r. inr (r .0, r .1, write-numbers p m l a out (r .0) h (r .1)))
       (writes m l (heldJob p m l a) out)

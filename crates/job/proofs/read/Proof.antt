@@ -21,7 +21,7 @@ use Rattle.job.specs.declared.Verdict.the-variants.{Counts}
 use Rattle.job.specs.declared.parse.FoundLink.{FoundLink}
 use Rattle.job.specs.declared.parse.FoundRack.{FoundRack}
 use Rattle.job.specs.declared.parse.Pass.{Pass}
-use Rattle.job.specs.declared.parse.WirePass.{WirePass}
+use Rattle.job.specs.declared.parse.Passage.{Passage}
 use Rattle.job.specs.Job.{Job, blank, withRack, withWires, withTasks, withEdges}
 use Rattle.job.specs.Record.{Kind, rack, step, link, end, wire, kindOf, empty, noRack, stands, wirePairs}
 use Rattle.job.specs.Read.{Answer, accepted, refused, refusedOr, records, readJob, padded, arraysOf, readingOf}
@@ -56,7 +56,7 @@ record Going (file : List ℕ) (p : Platform) (m : ℕ) (a : Arrays) (l at least
 
 -- no edge yet: the rest of the arrays is 0
 module _ (file : List ℕ) (rack : FoundRack) (x : RackPassed file rack) (ok : rack .trouble ≡ 0) where
-  module _ (costs : List ℕ) (wires : WirePass) (v : WiresPassed file (rack .next) (rack .platform) costs wires) where
+  module _ (costs : List ℕ) (wires : Passage) (v : WiresPassed file (rack .next) (rack .platform) costs wires) where
     abbrev joined : Job
     joined = withWires (withRack blank (rack .platform)) (map (wireHeld costs) (wirePairs (rack .platform)))
 

@@ -18,6 +18,7 @@ use Rattle.job.specs.Record.{kindOf, empty, stands, platformInRange, dur
 use Rattle.job.specs.Record.{wirePairs, tooEarly}
 use Rattle.job.specs.Read.{accepted, refused, refusedOr, judged, records, readJob}
 use Rattle.job.specs.Write.{wireBytes, stepBytes, linkBytes, fileOf, edgeHeld, heldJob, Held, roomFor, tooMany, writeAnswer}
+use Rattle.job.specs.Write.{WriterNumber}
 use Rattle.job.specs.Pass.{edge, key, firstOf, platformTrouble, costTrouble, stepTrouble, linkTrouble, wiresTrouble, stepsTrouble}
 use Rattle.job.specs.Pass.{linksTrouble, jobTrouble, Met, LinkDue}
 use Rattle.job.specs.Laws.Judged.{under, passes, stops}
@@ -209,15 +210,15 @@ held-writable p m l a few h = record {
 
 -- and so the writer's numbers are 3 to 7 and 9
 pub writer-numbers : (p : Platform) (m l : ℕ) (a : Arrays) (out : List ℕ) (n : ℕ) → Held a →
-    writeAnswer m l (heldJob p m l a) out ≡ Refused n → ((3 ≤ n) × (n ≤ 7)) ⊎ (n ≡ 9)
-unfolding writeAnswer
+    writeAnswer m l (heldJob p m l a) out ≡ Refused n → WriterNumber n
+unfolding writeAnswer WriterNumber
 writer-numbers p m l a out n h e = go (tooMany m l) refl e
   where
     j : Job
     j = heldJob p m l a
 
     go : (b : Bool) → tooMany m l ≡ b → pick b (Refused 5) (roomFor (fileOf j) out (readJob (fileOf j))) ≡ Refused n →
-        ((3 ≤ n) × (n ≤ 7)) ⊎ (n ≡ 9)
+        WriterNumber n
     go true hb q = let z : 5 ≡ n = cc in inl (omega arith)
     go false hb q =
         let w = held-writable p m l a (few-counts m l (when-false hb)) h in
