@@ -1,153 +1,139 @@
 -- `emit::put_job`: the parts are put one after the other, and so is the file; each has room, as the file has.
-use mathlib.Core.Path.{_≡_, _∙_}
-use mathlib.Core.List.{List, [], _∷_, map, flatMap}
+use mathlib.Core.Path.{_≡_, refl, ap, sym, _∙_}
+use mathlib.Core.List.{List, [], _∷_, _++_, map, flatMap, append-assoc}
 use Prim.Native.Nat.{ℕ, _+_, _≤_, _<_}
 use native.Mathlib.Omega.{arith}
-use borrow.Author.Needs.{needs}
-use lib.Dec.{T as Holds}
-use lib.ListN.{length, getD, set, length-set, length-append, length-map}
+use lib.ListN.{length, getD, drop, set, length-set, length-append}
 use Rattle.base.specs.Lists.{values}
 use Rattle.base.specs.Slices.{Put}
-use Rattle.base.specs.Laws.Values.{length-values}
-use Rattle.base.specs.Laws.Put.{put-then, put-byte}
+use Rattle.base.specs.Laws.Put.{put-none, put-then, put-byte}
 use Rattle.job.specs.declared.Arrays.{Arrays}
 use Rattle.job.specs.declared.Platform.{Platform}
-use Rattle.job.specs.Record.{platformInRange, wirePairs}
-use Rattle.job.specs.Write.{greatestLength, rackBytes, wireBytes, stepBytes, linkBytes, fileOf, edgeHeld, wireHeld, heldJob}
-use Rattle.job.specs.Laws.Tests.{platform-facts}
-use Rattle.job.specs.Laws.Wires.{few-pairs}
-use Rattle.job.specs.Laws.Written.{file-size}
+use Rattle.job.specs.Record.{wirePairs}
+use Rattle.job.specs.Write.{rackBytes, wireBytes, stepBytes, linkBytes, fileOf, edgeHeld, wireHeld, heldJob, gathered}
 use Rattle.job.proofs.emit.put_job.Statement.{statement}
 use Rattle.job.proofs.emit.put_job.Tie as tie
 
+-- parts one after the other, and the end record
+ended : List (List ℕ) → List ℕ
+ended [] = 4 ∷ []
+ended (t ∷ ts) = t ++ ended ts
+
+-- a file has been put up to `at`, these parts and the end record are left, and there is room for the file
+record Going (file out₀ out : List ℕ) (at : ℕ) (left : List (List ℕ)) : Type 0 where
+  so-far : List ℕ
+  parts : file ≡ so-far ++ ended left
+  put : Put out₀ out 0 at so-far
+  long : length out ≡ length out₀
+  fits : length file ≤ length out₀
+
+module _ {file out₀ out : List ℕ} {at : ℕ} where
+  done : Going file out₀ out at [] → Put out₀ (set out at 4) 0 (at + 1) file
+  unfolding ended
+  done g = rw (g .parts) (put-byte 4 (g .put))
+
+  end-room : Going file out₀ out at [] → at < length out
+  end-room g = omega (arith, done g .past, g .long, g .fits)
+
+  module _ {t : List ℕ} {ts : List (List ℕ)} (g : Going file out₀ out at (t ∷ ts)) where
+    room : at + length t ≤ length out
+    unfolding ended
+    room = omega (
+      arith,
+      g .put .past,
+      g .long,
+      g .fits,
+      ap length (g .parts),
+      length-append (g .so-far) (t ++ ended ts),
+      length-append t (ended ts),
+    )
+
+    next : {out′ : List ℕ} {n : ℕ} → Put out out′ at n t → length out′ ≡ length out → Going file out₀ out′ n ts
+    unfolding ended
+    next q same = record {
+      so-far = g .so-far ++ t;
+      parts = g .parts ∙ sym (append-assoc (g .so-far) t (ended ts));
+      put = put-then (g .put) q;
+      long = same ∙ g .long;
+      fits = g .fits;
+    }
+
 module _ (p : Platform) (m l : ℕ) (a : Arrays) where
-  abbrev rack : List ℕ
-  rack = 1 ∷ p .processors ∷ p .topology ∷ p .unit ∷ []
+  abbrev partsOf : List (List ℕ)
+  partsOf =
+      (1 ∷ p .processors ∷ p .topology ∷ p .unit ∷ [])
+      ∷ flatMap wireBytes (map (wireHeld (a .wires)) (wirePairs p))
+      ∷ flatMap stepBytes (values (λ t. getD (a .durations) t 0) 0 m)
+      ∷ flatMap linkBytes (values (edgeHeld (a .from) (a .to) (a .counts)) 0 l)
+      ∷ []
 
-  abbrev wires : List ℕ
-  wires = flatMap wireBytes (map (wireHeld (a .wires)) (wirePairs p))
+  begin : (out : List ℕ) → length (fileOf (heldJob p m l a)) ≤ length out → Going (fileOf (heldJob p m l a)) out out 0 partsOf
+  unfolding fileOf heldJob rackBytes ended
+  begin out fits = record { so-far = []; parts = refl; put = put-none out 0; long = refl; fits = fits }
 
-  abbrev steps : List ℕ
-  steps = flatMap stepBytes (values (λ t. getD (a .durations) t 0) 0 m)
+-- all but the first k parts of the file are left, at a place of the code
+abbrev Left : tie.Start → ℕ → List ℕ → ℕ → Type 0
+Left s k out at =
+    let x = s .args in
+    let a = gathered (x .durations .now) (x .from .now) (x .to .now) (x .counts .now) (x .costs .now) in
+    let file = fileOf (heldJob (x .platform) (x .tasks) (x .edges) a) in
+    Going file (x .out .now) out at (drop k (partsOf (x .platform) (x .tasks) (x .edges) a))
 
-  abbrev links : List ℕ
-  links = flatMap linkBytes (values (edgeHeld (a .from) (a .to) (a .counts)) 0 l)
+abbrev start-of : tie.After-put4 → tie.Start
+start-of w = w .before .before .before
 
-  whole : {o o1 o2 o3 o4 : List ℕ} {h i j k : ℕ} → Put o o1 0 h rack → Put o1 o2 h i wires → Put o2 o3 i j steps → Put o3 o4 j k links →
-      Put o (set o4 k 4) 0 (k + 1) (fileOf (heldJob p m l a))
-  unfolding fileOf heldJob rackBytes
-  whole q w r s = put-then q (put-then w (put-then r (put-byte 4 s)))
+abbrev rack-of : tie.After-put-wires → tie.After-put4
+rack-of w = w .before .before .before .before
 
-  size : length (fileOf (heldJob p m l a)) ≡ 5 + (length wires + (length steps + length links))
-  unfolding fileOf heldJob rackBytes
-  size = simp length-append (omega arith)
+abbrev wires-of : tie.After-put-steps → tie.After-put-wires
+wires-of w = w .before .before .before .before
 
-  -- no file is longer than the greatest
-  most : Holds (platformInRange p) → m ≤ 256 → l ≤ 1024 → length (fileOf (heldJob p m l a)) ≤ greatestLength
-  unfolding heldJob
-  most r few few′ = omega (
-    arith,
-    file-size (heldJob p m l a),
-    length-map (wirePairs p) (wireHeld (a .wires)),
-    few-pairs p (platform-facts p r .1),
-    length-values (λ t. getD (a .durations) t 0) 0 m,
-    length-values (edgeHeld (a .from) (a .to) (a .counts)) 0 l,
-  )
+abbrev steps-of : tie.After-put-links → tie.After-put-steps
+steps-of w = w .before .before .before .before
 
-  rack-room : {n : ℕ} → length (fileOf (heldJob p m l a)) ≤ n → 4 ≤ n
-  rack-room room = omega (arith, size)
+at-first : (s : tie.Start) → Left s 0 (s .args .out .now) 0
+at-first s = begin _ _ _ _ _ (s .pre .1)
 
-  module _ {o o1 : List ℕ} {h : ℕ} (q : Put o o1 0 h rack) (same : length o1 ≡ length o)
-      (room : length (fileOf (heldJob p m l a)) ≤ length o) where
-    wires-room : h + length wires ≤ length o1
-    wires-room = omega (arith, size, q .past)
+after-rack : (w : tie.After-put4) → Left (start-of w) 1 (w .put4 .last .0) (w .put4 .result)
+after-rack w = next (at-first (start-of w)) (w .put4 .ensures) (w .put4 .kept .0)
 
-    module _ {o2 : List ℕ} {i : ℕ} (w : Put o1 o2 h i wires) (same′ : length o2 ≡ length o1) where
-      steps-room : i + length steps ≤ length o2
-      steps-room = omega (arith, size, q .past, w .past)
+after-wires : (w : tie.After-put-wires) → Left (start-of (rack-of w)) 2 (w .put-wires .last .1 .1 .0) (w .put-wires .result)
+after-wires w = next (after-rack (rack-of w)) (w .put-wires .ensures) (w .put-wires .kept .1 .1 .0)
 
-      module _ {o3 : List ℕ} {j : ℕ} (r : Put o2 o3 i j steps) (same″ : length o3 ≡ length o2) where
-        links-room : j + length links ≤ length o3
-        links-room = omega (arith, size, q .past, w .past, r .past)
+after-steps : (w : tie.After-put-steps) → Left (start-of (rack-of (wires-of w))) 3 (w .put-steps .last .1 .1 .0) (w .put-steps .result)
+after-steps w = next (after-wires (wires-of w)) (w .put-steps .ensures) (w .put-steps .kept .1 .1 .0)
 
-        end-room : {o4 : List ℕ} {k : ℕ} → Put o3 o4 j k links → length o4 ≡ length o3 → k < length o4
-        end-room s same‴ = omega (arith, size, q .past, w .past, r .past, s .past)
-
-        short : {o4 : List ℕ} {k : ℕ} → Put o3 o4 j k links → Holds (platformInRange p) → m ≤ 256 → l ≤ 1024 → k + 1 ≤ greatestLength
-        short s in-range few few′ = omega (arith, whole q w r s .past, most in-range few few′)
+after-links : (w : tie.After-put-links)
+    → Left (start-of (rack-of (wires-of (steps-of w)))) 4 (w .put-links .last .1 .1 .1 .1 .0) (w .put-links .result)
+after-links w = next (after-steps (steps-of w)) (w .put-links .ensures) (w .put-links .kept .1 .1 .1 .1 .0)
 
 put4-requires : tie.Need-put4-requires
-put4-requires c κs = rack-room _ _ _ _ (c .before .before .pre .1)
+put4-requires c κs = room (at-first (c .before .before))
 
 put-wires-requires : tie.Need-put-wires-requires
-put-wires-requires c κs =
-    let at-put4 = c .before .before .before in
-    let at-start = at-put4 .before .before .before in
-    (at-start .pre .0 .0, wires-room _ _ _ _ (at-put4 .put4 .ensures) (at-put4 .put4 .kept .0) (at-start .pre .1))
+put-wires-requires c κs = let w = c .before .before .before in (start-of w .pre .0 .0, room (after-rack w))
 
 put-steps-requires : tie.Need-put-steps-requires
-put-steps-requires c κs =
-    let at-put-wires = c .before .before .before in
-    let at-put4 = at-put-wires .before .before .before .before in
-    let at-start = at-put4 .before .before .before in (
-      at-start .pre .0 .1,
-      steps-room _ _ _ _ (at-put4 .put4 .ensures) (at-put4 .put4 .kept .0) (at-start .pre .1) (at-put-wires .put-wires .ensures)
-          (at-put-wires .put-wires .kept .1 .1 .0),
-    )
+put-steps-requires c κs = let w = c .before .before .before in (start-of (rack-of w) .pre .0 .1, room (after-wires w))
 
 put-links-requires : tie.Need-put-links-requires
-put-links-requires c κs =
-    let at-put-steps = c .before .before .before in
-    let at-put-wires = at-put-steps .before .before .before .before in
-    let at-put4 = at-put-wires .before .before .before .before in
-    let at-start = at-put4 .before .before .before in (
-      at-start .pre .0 .2,
-      links-room _ _ _ _ (at-put4 .put4 .ensures) (at-put4 .put4 .kept .0) (at-start .pre .1) (at-put-wires .put-wires .ensures)
-          (at-put-wires .put-wires .kept .1 .1 .0) (at-put-steps .put-steps .ensures) (at-put-steps .put-steps .kept .1 .1 .0),
-    )
+put-links-requires c κs = let w = c .before .before .before in (start-of (rack-of (wires-of w)) .pre .0 .2, room (after-steps w))
 
 slice-write-out : tie.Need-slice-write-out
-slice-write-out c =
-    let at-put-links = c .before .before in
-    let at-put-steps = at-put-links .before .before .before .before in
-    let at-put-wires = at-put-steps .before .before .before .before in
-    let at-put4 = at-put-wires .before .before .before .before in
-    let at-start = at-put4 .before .before .before in
-    end-room _ _ _ _ (at-put4 .put4 .ensures) (at-put4 .put4 .kept .0) (at-start .pre .1) (at-put-wires .put-wires .ensures)
-    (at-put-wires .put-wires .kept .1 .1 .0) (at-put-steps .put-steps .ensures) (at-put-steps .put-steps .kept .1 .1 .0)
-    (at-put-links .put-links .ensures) (at-put-links .put-links .kept .1 .1 .1 .1 .0)
+slice-write-out c = end-room (after-links (c .before .before))
 
 add-result : tie.Need-add-result
 add-result c =
-    let at-put-links = c .before .before in
-    let at-put-steps = at-put-links .before .before .before .before in
-    let at-put-wires = at-put-steps .before .before .before .before in
-    let at-put4 = at-put-wires .before .before .before .before in
-    let at-start = at-put4 .before .before .before in
-    search (
-      needs,
-      short _ _ _ _ (at-put4 .put4 .ensures) (at-put4 .put4 .kept .0) (at-start .pre .1) (at-put-wires .put-wires .ensures)
-          (at-put-wires .put-wires .kept .1 .1 .0) (at-put-steps .put-steps .ensures) (at-put-steps .put-steps .kept .1 .1 .0)
-          (at-put-links .put-links .ensures) (at-start .pre .0 .0) (at-start .pre .0 .1) (at-start .pre .0 .2),
-    )
+    let w = c .before .before in
+    let g = after-links w in
+    let good = start-of (rack-of (wires-of (steps-of w))) .good in
+    record { fits = omega (arith, end-room g, g .long, good .1 .1 .1 .1 .1 .1 .1 .1 .0) }
 
 same-length : tie.Need-same-length
-same-length c =
-    let at-put-links = c .before .before in
-    let at-put-steps = at-put-links .before .before .before .before in
-    let at-put-wires = at-put-steps .before .before .before .before in
-    let at-put4 = at-put-wires .before .before .before .before in
-    simp length-set (at-put-links .put-links .kept .1 .1 .1 .1 .0 ∙ at-put-steps .put-steps .kept .1 .1 .0
-    ∙ at-put-wires .put-wires .kept .1 .1 .0 ∙ at-put4 .put4 .kept .0)
+same-length c = simp length-set (after-links (c .before .before) .long)
 
 returns : tie.Need-returns
-returns c =
-    let at-put-links = c .before .before in
-    let at-put-steps = at-put-links .before .before .before .before in
-    let at-put-wires = at-put-steps .before .before .before .before in
-    let at-put4 = at-put-wires .before .before .before .before in
-    whole _ _ _ _ (at-put4 .put4 .ensures) (at-put-wires .put-wires .ensures) (at-put-steps .put-steps .ensures)
-    (at-put-links .put-links .ensures)
+returns c = done (after-links (c .before .before))
 
 pub put-job-spec : {M : Type 1} → statement M
 put-job-spec =
