@@ -5,19 +5,25 @@ use mathlib.Core.Logic.{_⊎_}
 use mathlib.Core.Path.{_≡_, refl, sym, _∙_}
 use mathlib.Core.List.{List, map, append-nil}
 use Prim.Native.Nat.{ℕ, suc, _+_, _*_, _≤_, _<_}
+use lib.Dec.{eqb}
 use lib.ListN.{length, getD, List·getD-eq-default}
 use Rattle.job.specs.declared.Verdict.the-variants.{Counts, Refused}
-use Rattle.base.specs.Laws.Tests.{impossible}
+use Rattle.base.specs.Lists.{_∈_}
+use Rattle.base.specs.Laws.Tests.{impossible, neqb→ne}
+use Rattle.base.specs.Laws.Lists.{any-not, at-in}
 use Rattle.job.specs.declared.Arrays.{Arrays}
-use Rattle.job.specs.Job.{Edge, ends, wireCost, Job, blank}
+use Rattle.job.specs.Job.{Edge, Result, resultCount, RiseByTask, ends, wireCost, Job, blank}
+use Rattle.job.specs.Counts.{count-most}
 use Rattle.job.specs.Limits.{mostProcessors, mostUnit, mostWireCost, mostDuration, mostCount, mostTasks, mostEdges}
-use Rattle.job.specs.Record.{wirePairs}
+use Rattle.job.specs.Record.{wirePairs, hasSuccessor}
 use Rattle.job.specs.Read.{Answer, accepted, refused, readJob, arraysOf, readingOf}
 use Rattle.job.specs.Laws.Turn.{reads}
 use Rattle.job.specs.Laws.Lists.{padded-length, padded-at, column-length, column-at, column-spare}
 use Rattle.job.specs.Laws.Tests.{platform-facts, duration-facts, count-facts, joins-facts, rises-facts}
 use Rattle.job.specs.Laws.Kept.{noEdge, nothing, kept}
 use Rattle.job.specs.Laws.Wires.{array-length, array-at}
+use Rattle.job.specs.Laws.Results.{array-size, array-count}
+use Rattle.job.specs.Laws.Successors.{results-few}
 
 -- the duration of task t
 abbrev pub duration : Job → ℕ → ℕ
@@ -48,9 +54,16 @@ pub record Accepted (j : Job) : Type 0 where
   pub some-message : (i : ℕ) → i < length (j .edges) → 1 ≤ edgeAt j i .count
   pub few-messages : (i : ℕ) → i < length (j .edges) → edgeAt j i .count ≤ mostCount
   pub rising : (i : ℕ) → suc i < length (j .edges) → Before (edgeAt j i) (edgeAt j (suc i))
+  pub results-rise : RiseByTask (j .results)
+  pub results-within : (r : Result) → r ∈ j .results → r .task < length (j .tasks)
+  pub results-last : (r : Result) → r ∈ j .results → (i : ℕ) → i < length (j .edges) → edgeAt j i .from ≡ r .task → ⊥
+  pub some-delivery : (r : Result) → r ∈ j .results → 1 ≤ r .count
+  pub few-deliveries : (T : ℕ) → resultCount (j .results) T ≤ mostCount
+  -- at most 255 edges leave a task, and none leaves a task with a result
+  pub few-results : length (j .edges) + 255 * length (j .results) ≤ 255 * length (j .tasks)
 
 pub accepted-job : (file : List ℕ) (j : Job) → readJob file ≡ accepted j → Accepted j
-unfolding readJob
+unfolding readJob hasSuccessor
 accepted-job file j e =
     let k = kept (reads file 0 blank) nothing j e in
     let p = platform-facts (j .platform) (k .0 .platform-right) in
@@ -71,6 +84,14 @@ accepted-job file j e =
       some-message = λ i h. count-facts (edgeAt j i .count) (k .0 .counts-right i h) .0;
       few-messages = λ i h. count-facts (edgeAt j i .count) (k .0 .counts-right i h) .1;
       rising = λ i h. rises-facts (edgeAt j i) (edgeAt j (suc i)) (k .0 .edges-rise i h);
+      results-rise = k .0 .results-rise;
+      results-within = λ r h. k .0 .results-right r h .0;
+      results-last = λ r h i l e. neqb→ne (edgeAt j i .from) (r .task)
+          (any-not (λ (d : Edge). eqb (d .from) (r .task)) (j .edges) (k .0 .results-right r h .1) (edgeAt j i) (at-in noEdge (j .edges) i l)) e;
+      some-delivery = λ r h. count-facts (r .count) (k .0 .results-right r h .2) .0;
+      few-deliveries = λ T. count-most (j .results) mostCount T (λ r h. count-facts (r .count) (k .0 .results-right r h .2) .1);
+      few-results = results-few noEdge j (k .0 .edges-join) (k .0 .edges-rise) (k .0 .few-tasks) (k .0 .results-rise)
+          (λ r h. (k .0 .results-right r h .0, k .0 .results-right r h .1));
     }
 
 -- a verdict with counts comes with an accepted job that has those counts
@@ -93,11 +114,13 @@ pub record LaidOut (r : Arrays) (j : Job) : Type 0 where
   pub to-length : length (r .to) ≡ 1024
   pub counts-length : length (r .counts) ≡ 1024
   pub wires-length : length (r .wires) ≡ 256
+  pub results-length : length (r .results) ≡ 256
   pub duration-at : (t : ℕ) → getD (r .durations) t 0 ≡ duration j t
   pub from-at : (i : ℕ) → getD (r .from) i 0 ≡ edgeAt j i .from
   pub to-at : (i : ℕ) → getD (r .to) i 0 ≡ edgeAt j i .to
   pub count-at : (i : ℕ) → getD (r .counts) i 0 ≡ edgeAt j i .count
   pub wire-at : (p q : ℕ) → p < 16 → q < 16 → getD (r .wires) (16 * p + q) 0 ≡ wireCost (j .wires) p q
+  pub result-at : (T : ℕ) → T < 256 → getD (r .results) T 0 ≡ resultCount (j .results) T
   pub spare-durations : (t : ℕ) → length (j .tasks) ≤ t → getD (r .durations) t 0 ≡ 0
   pub spare-from : (i : ℕ) → length (j .edges) ≤ i → getD (r .from) i 0 ≡ 0
   pub spare-to : (i : ℕ) → length (j .edges) ≤ i → getD (r .to) i 0 ≡ 0
@@ -112,11 +135,13 @@ laid-out j a = record {
   to-length = column-length (λ e. e .to) noEdge refl (j .edges) (a .few-edges);
   counts-length = column-length (λ e. e .count) noEdge refl (j .edges) (a .few-edges);
   wires-length = array-length (j .wires);
+  results-length = array-size (j .results);
   duration-at = padded-at 256 (j .tasks);
   from-at = column-at (λ e. e .from) noEdge refl (j .edges);
   to-at = column-at (λ e. e .to) noEdge refl (j .edges);
   count-at = column-at (λ e. e .count) noEdge refl (j .edges);
   wire-at = array-at (j .wires);
+  result-at = array-count (j .results);
   spare-durations = λ t h. padded-at 256 (j .tasks) t ∙ List·getD-eq-default (j .tasks) 0 h;
   spare-from = column-spare (λ e. e .from) noEdge refl (j .edges);
   spare-to = column-spare (λ e. e .to) noEdge refl (j .edges);

@@ -1,17 +1,18 @@
--- The small inputs of document 01's refusal table, the file of its worked case A, and small files for each sentence of document 02 §1, held
--- to the definition of the reader by computing it.
+-- The small inputs of document 01's refusal table, the file of its worked case A, and small files for each sentence of document 02 §1 and
+-- §2, held to the definition of the reader by computing it.
 use mathlib.Core.Bool.{Bool, true, _&&_}
 use mathlib.Core.List.{List, [], _∷_, _++_, flatMap}
 use Prim.Native.Nat.{ℕ}
 use lib.Dec.{eqb}
 use lib.Dec.{T as Holds}
 use lib.ListN.{replicate}
-use Rattle.base.specs.Lists.{upto, filter}
+use Rattle.base.specs.Lists.{upto, any, filter}
 use Rattle.base.specs.Number.{number}
 use Rattle.job.specs.Job.{blank}
 use Rattle.job.specs.Record.{kindOf, bodyLength, platformIn, durationIn, edgeIn, noRack, stands, full, platformInRange}
 use Rattle.job.specs.Record.{durationInRange, countInRange, inRange, joins, rises, aboveLast, misfit, added}
-use Rattle.job.specs.Record.{wireIn, costInRange, pairs, wirePairs, pairsDue, isDue, tooEarly}
+use Rattle.job.specs.Record.{wireIn, costInRange, pairs, wirePairs, pairsDue, isDue, tooEarly, resultIn, hasSuccessor, pastResults}
+use Rattle.job.specs.Record.{mayDeliver}
 use Rattle.job.specs.Read.{Answer, accepted, refused, after, judged, records, readJob}
 
 -- a file and the number that it gets, 0 where it is accepted
@@ -89,6 +90,45 @@ wire-cases =
     ∷ case 4 (1 ∷ 2 ∷ 3 ∷ 101 ∷ [])
     ∷ []
 
+-- a result: 256 times `high`, and `low`, messages of a step
+abbrev result : ℕ → ℕ → ℕ → List ℕ
+result T low high = 6 ∷ T ∷ low ∷ high ∷ []
+
+-- two steps with a link
+abbrev linked : List ℕ
+linked = rack-2 ++ (one-tick ++ (one-tick ++ link-01))
+
+-- two steps without
+abbrev loose : List ℕ
+loose = rack-2 ++ (one-tick ++ one-tick)
+
+-- 02 §2
+pub result-cases : List Case
+result-cases =
+    -- after the links, of which there may be none
+    case 0 (linked ++ (result 1 1 0 ++ (4 ∷ [])))
+    ∷ case 0 (loose ++ (result 0 1 0 ++ (result 1 1 0 ++ (4 ∷ []))))
+    ∷ case 0 (loose ++ (result 1 1 0 ++ (4 ∷ [])))
+    -- a result before the first step, or a step, a link or a rack after a result, is 3
+    ∷ case 3 (rack-2 ++ result 0 1 0)
+    ∷ case 3 (loose ++ (result 0 1 0 ++ one-tick))
+    ∷ case 3 (loose ++ (result 1 1 0 ++ link-01))
+    ∷ case 3 (loose ++ (result 1 1 0 ++ rack-2))
+    ∷ case 1 (loose ++ result 1 1 0)
+    -- "a result for a step that is absent, has a successor or is out of order"
+    ∷ case 15 (loose ++ result 2 1 0)
+    ∷ case 15 (linked ++ result 0 1 0)
+    ∷ case 15 (loose ++ (result 1 1 0 ++ result 0 1 0))
+    ∷ case 15 (loose ++ (result 0 1 0 ++ result 0 1 0))
+    -- "count (2 bytes, 1 to 1,000)"
+    ∷ case 0 (loose ++ (result 0 232 3 ++ (4 ∷ [])))
+    ∷ case 4 (loose ++ result 0 233 3)
+    ∷ case 4 (loose ++ result 0 0 0)
+    -- "judged after 4", and 4 after 1
+    ∷ case 4 (linked ++ result 0 0 0)
+    ∷ case 1 (linked ++ (6 ∷ 0 ∷ 0 ∷ []))
+    ∷ []
+
 abbrev numberOf : Answer → ℕ
 numberOf (accepted j) = 0
 numberOf (refused k) = k
@@ -96,8 +136,8 @@ numberOf (refused k) = k
 -- the answer to a file; all definitions of the reader are opened, so that it computes, also where another crate opens this one name
 unfoldable pub computed : List ℕ → Answer
 unfolding readJob blank records judged after kindOf bodyLength stands noRack full inRange platformInRange durationInRange countInRange
-    costInRange misfit tooEarly isDue pairsDue wirePairs pairs joins aboveLast rises added platformIn durationIn edgeIn wireIn number
-    flatMap filter upto
+    costInRange misfit tooEarly isDue pairsDue wirePairs pairs joins aboveLast rises mayDeliver hasSuccessor pastResults added platformIn
+    durationIn edgeIn wireIn resultIn number flatMap filter any upto
 computed file = readJob file
 
 -- each file gets its number
@@ -112,3 +152,7 @@ cases-hold = tt
 pub wire-cases-hold : Holds (right wire-cases)
 unfolding right wire-cases computed
 wire-cases-hold = tt
+
+pub result-cases-hold : Holds (right result-cases)
+unfolding right result-cases computed
+result-cases-hold = tt

@@ -8,8 +8,8 @@ use Prim.Native.Nat.{ℕ, suc, _+_, _<_, _≤_}
 use lib.Dec.{T as Holds}
 use lib.ListN.{length, getD, drop}
 use Rattle.job.specs.Job.{Job, blank}
-use Rattle.job.specs.Record.{Kind, step, link, end, wire, kindOf, bodyLength, empty, stands, full, inRange, joins, aboveLast, misfit}
-use Rattle.job.specs.Record.{pairsDue, isDue, added, edgeIn, wireIn}
+use Rattle.job.specs.Record.{Kind, step, link, end, wire, result, kindOf, bodyLength, empty, stands, full, inRange, joins, aboveLast}
+use Rattle.job.specs.Record.{misfit, pairsDue, isDue, mayDeliver, added, edgeIn, wireIn, resultIn}
 
 -- why a record of this kind, with `rest` after its kind byte, is refused after the job so far (01: the refusal table)
 pub data Cause (rest : List ℕ) (j : Job) : Option Kind → ℕ → Type 0 where
@@ -23,10 +23,11 @@ pub data Cause (rest : List ℕ) (j : Job) : Option Kind → ℕ → Type 0 wher
   bytes-after : Holds (not (empty rest)) → Cause rest j (some end) 8
   not-due : Holds (not (isDue (pairsDue j) (wireIn rest))) → Cause rest j (some wire) 14
   too-early : Holds (not (empty (pairsDue j))) → Cause rest j (some step) 14
+  not-deliverable : Holds (not (mayDeliver j (resultIn rest .task))) → Cause rest j (some result) 15
 
--- the reader's numbers (01: the refusal table; 02 §1): 1 to 8, and 14
+-- the reader's numbers (01: the refusal table; 02 §1 and §2): 1 to 8, 14 and 15
 unfoldable pub ReaderNumber : ℕ → Type 0
-ReaderNumber n = ((1 ≤ n) × (n ≤ 8)) ⊎ (n ≡ 14)
+ReaderNumber n = ((1 ≤ n) × (n ≤ 8)) ⊎ ((14 ≤ n) × (n ≤ 15))
 
 -- a record of kind k without trouble, with `rest` after its kind byte, after the job so far
 pub record Untroubled (rest : List ℕ) (j : Job) (k : Kind) : Type 0 where

@@ -16,5 +16,7 @@ pub mod Encoded
 pub mod Met
 pub mod Written
 pub mod Wires
+pub mod Results
+pub mod Successors
 pub mod Rewritten
 pub mod Prefix

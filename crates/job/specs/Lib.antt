@@ -1,5 +1,6 @@
 pub mod Limits
 pub mod Job
+pub mod Counts
 pub mod Record
 pub mod Read
 pub mod Write
@@ -7,6 +8,7 @@ pub mod Accepted
 pub mod Cause
 pub mod Refusal
 pub mod RoundTrip
+pub mod Reached
 pub mod Cases
 pub mod Pass
 pub mod Laws

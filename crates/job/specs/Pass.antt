@@ -1,6 +1,6 @@
 -- What the private functions promise one another: one record or a pass over one kind of record, from a place of the file to the place
 -- after it, and the first trouble of a job. A reader of the public contracts needs nothing of this file.
-use mathlib.Core.Bool.{Bool, not}
+use mathlib.Core.Bool.{Bool, false, not, _&&_}
 use mathlib.Core.Logic.{_⊎_}
 use mathlib.Core.Path.{_≡_}
 use mathlib.Core.List.{List, [], _∷_, _++_, map, flatMap}
@@ -12,20 +12,22 @@ use lib.ListN.{length, getD, drop, replicate}
 use mir.Syntax.{w8, w16, w32}
 use mir.Val.{Fits}
 use Rattle.base.specs.Choice.{pick}
-use Rattle.base.specs.Lists.{values, filter}
+use Rattle.base.specs.Lists.{values, upto, any, filter}
 use Rattle.job.specs.declared.Platform.{Platform}
 use Rattle.job.specs.declared.parse.Pass.{Pass}
 use Rattle.job.specs.declared.parse.FoundRack.{FoundRack}
 use Rattle.job.specs.declared.parse.FoundStep.{FoundStep}
 use Rattle.job.specs.declared.parse.FoundLink.{FoundLink}
 use Rattle.job.specs.declared.parse.FoundWire.{FoundWire}
+use Rattle.job.specs.declared.parse.FoundResult.{FoundResult}
 use Rattle.job.specs.declared.parse.Passage.{Passage}
 use Rattle.job.specs.declared.record.Pair.{Pair}
-use Rattle.job.specs.Job.{Edge, Wire, Job, blank, withRack, withWires, withTasks, withEdges}
-use Rattle.job.specs.Record.{Kind, step, link, end, wire, kindOf, empty, stands, platformInRange, durationInRange, countInRange}
-use Rattle.job.specs.Record.{joins, aboveLast, costInRange, wirePairs, pairsDue, isDue, tooEarly}
-use Rattle.job.specs.Read.{refused, accepted, refusedOr, records, readJob, wireArray}
-use Rattle.job.specs.Write.{edgeHeld, wireHeld, fileOf}
+use Rattle.job.specs.Job.{Edge, Wire, Result, Job, blank, withRack, withWires, withTasks, withEdges, withResults}
+use Rattle.job.specs.Record.{Kind, step, link, end, wire, result, kindOf, empty, stands, platformInRange, durationInRange}
+use Rattle.job.specs.Record.{countInRange, joins, aboveLast, costInRange, wirePairs, pairsDue, isDue, tooEarly, hasSuccessor}
+use Rattle.job.specs.Record.{pastResults}
+use Rattle.job.specs.Read.{refused, accepted, refusedOr, records, readJob, wireArray, resultArray}
+use Rattle.job.specs.Write.{edgeHeld, wireHeld, resultHeld, resultsHeld, fileOf}
 
 -- links by their keys: rising by from, then by to, is rising by key, as to is a byte
 unfoldable pub key : Edge → ℕ
@@ -36,6 +38,17 @@ edge f t c = record { from = f; to = t; count = c }
 
 abbrev pub wireOf : ℕ → ℕ → ℕ → Wire
 wireOf f t c = record { from = f; to = t; cost = c }
+
+abbrev pub resultOf : ℕ → ℕ → Result
+resultOf T c = record { task = T; count = c }
+
+-- task T is where one of the first l edges comes from
+unfoldable pub sends : List ℕ → ℕ → ℕ → Bool
+sends from l T = any (λ k. eqb (getD from k 0) T) (upto l)
+
+-- the results of k tasks from task T on, of those that have a count
+unfoldable pub resultsFrom : List ℕ → ℕ → ℕ → List Result
+resultsFrom counts T k = map (resultHeld counts) (filter (λ i. ltb 0 (getD counts i 0)) (values (λ i. i) T k))
 
 -- the pairs from p to a processor that is at least q
 unfoldable pub rowFrom : ℕ → ℕ → ℕ → List (ℕ × ℕ)
@@ -88,6 +101,20 @@ wireTrouble due w =
     (pick (not (isDue due w)) 14
     0)
 
+-- the trouble of a result whose task is below m and above that of the one before, 4 or 15, or 0 for none; `sent`: it has a successor
+unfoldable pub deliveryTrouble : Bool → ℕ → ℕ
+deliveryTrouble sent c =
+    pick (not (countInRange c)) 4
+    (pick sent 15
+    0)
+
+-- the trouble of a result, 4 or 15, or 0 for none; `least` is the least task above that of the result before
+unfoldable pub resultTrouble : ℕ → ℕ → Bool → Result → ℕ
+resultTrouble m least sent r =
+    pick (not (countInRange (r .count))) 4
+    (pick (not (ltb (r .task) m && not sent && leb least (r .task))) 15
+    0)
+
 -- the first trouble of wires that stand in their order, or 0
 unfoldable pub wiresTrouble : List Wire → ℕ
 wiresTrouble [] = 0
@@ -103,14 +130,21 @@ unfoldable pub linksTrouble : ℕ → ℕ → List Edge → ℕ
 linksTrouble m least [] = 0
 linksTrouble m least (e ∷ es) = firstOf (linkTrouble m least e) (linksTrouble m (key e + 1) es)
 
--- the first trouble of a job whose wires are those of its pairs, as the reader would meet its records, or 0
+-- the first trouble of results that stand in their order, of tasks below m, or 0; `sent`: which tasks have a successor
+unfoldable pub resultsTrouble : (ℕ → Bool) → List Result → ℕ
+resultsTrouble sent [] = 0
+resultsTrouble sent (r ∷ rs) = firstOf (deliveryTrouble (sent (r .task)) (r .count)) (resultsTrouble sent rs)
+
+-- the first trouble of a job whose wires are those of its pairs and whose results stand in their order, of tasks below m, as the reader
+-- would meet its records, or 0
 unfoldable pub jobTrouble : Job → ℕ
 jobTrouble j =
     firstOf (platformTrouble (j .platform))
     (firstOf (wiresTrouble (j .wires))
     (firstOf (pick (empty (j .tasks)) 3 0)
     (firstOf (stepsTrouble (j .tasks))
-    (linksTrouble (length (j .tasks)) 0 (j .edges)))))
+    (firstOf (linksTrouble (length (j .tasks)) 0 (j .edges))
+    (resultsTrouble (hasSuccessor (j .edges)) (j .results))))))
 
 -- the reader meets the file of a job with this trouble, or 0 and it accepts the job as it is
 abbrev pub Met : Job → ℕ → Type 0
@@ -126,6 +160,11 @@ pub record LinksJudged (from to counts : List ℕ) (m l trouble : ℕ) : Type 0 
   pub first : trouble ≡ linksTrouble m 0 (values (edgeHeld from to counts) 0 l)
   pub to-fits : (i : ℕ) → Fits w8 (getD to i 0)
   pub count-fits : (i : ℕ) → Fits w16 (getD counts i 0)
+
+-- the results among the first m tasks of an array: their first trouble, where the first l edges come from `from`; counts have 16 bits
+pub record ResultsJudged (from results : List ℕ) (m l trouble : ℕ) : Type 0 where
+  pub first : trouble ≡ resultsTrouble (sends from l) (resultsHeld results m)
+  pub fits : (T : ℕ) → Fits w16 (getD results T 0)
 
 -- the answer to whether a record of this kind stands at place `at`
 pub record StandsThere (file : List ℕ) (at kind : ℕ) (answer : Bool) : Type 0 where
@@ -241,6 +280,40 @@ pub record LinkPassed (file : List ℕ) (at m l least : ℕ) (r : FoundLink) : T
   pub few : r .trouble ≡ 0 → l < 1024
   pub byte : r .to < 256
   pub least-is : r .least ≡ key (edge (r .from) (r .to) (r .count)) + 1
+
+-- a job so far that a result may follow, with m steps; `sent` says which tasks have a successor, and `least` is the least task above that
+-- of the last result
+pub record ResultDue (j : Job) (m least : ℕ) (sent : List Bool) : Type 0 where
+  pub placed : Holds (stands j result)
+  pub tasks-are : length (j .tasks) ≡ m
+  pub sent-are : (T : ℕ) → T < 256 → getD sent T false ≡ hasSuccessor (j .edges) T
+  pub above : (T : ℕ) → pastResults (j .results) T ≡ leb least T
+
+-- the result at place `at`: its trouble, or 0 and what is left to judge is the file from `next` on, with this result more
+pub record ResultPassed (file : List ℕ) (at m least : ℕ) (sent : List Bool) (r : FoundResult) : Type 0 where
+  pub answer : (j : Job) → ResultDue j m least sent →
+      records (drop at file) 0 j
+      ≡ refusedOr (r .trouble) (records (drop (r .next) file) 0 (withResults j (resultOf (r .task) (r .count) ∷ [])))
+  pub ahead : r .trouble ≡ 0 → at < r .next
+  pub inside : r .trouble ≡ 0 → r .next ≤ length file
+  pub byte : r .task < 256
+  pub some-message : r .trouble ≡ 0 → 1 ≤ r .count
+  pub within : r .trouble ≡ 0 → r .task < m
+  pub rises : r .trouble ≡ 0 → least ≤ r .task
+
+-- the results from place `at` on were taken, and no result stands at `next`; where there were none, that is place `at`
+pub record ResultsTaken (file : List ℕ) (at m : ℕ) (counts : List ℕ) (next : ℕ) : Type 0 where
+  pub inside : next ≤ length file
+  pub first : resultsHeld counts m ≡ [] → next ≡ at
+  pub over : next < length file → kindOf (getD file next 0) ≡ some result → ⊥
+  pub spare : resultArray (resultsHeld counts m) ≡ counts
+
+-- the results from place `at` on: the trouble that was met, or 0 and what is left to judge is the file from `next` on, with these results
+-- more
+pub record ResultsPassed (file : List ℕ) (at m : ℕ) (sent : List Bool) (counts : List ℕ) (r : Passage) : Type 0 where
+  pub answer : (j : Job) → ResultDue j m 0 sent →
+      records (drop at file) 0 j ≡ refusedOr (r .trouble) (records (drop (r .next) file) 0 (withResults j (resultsHeld counts m)))
+  pub taken : r .trouble ≡ 0 → ResultsTaken file at m counts (r .next)
 
 -- a job so far that the end record may follow, and of the kinds that a record at place `at` can have, no other
 pub record EndDue (file : List ℕ) (at : ℕ) (j : Job) : Type 0 where

@@ -11,8 +11,9 @@ use Rattle.base.specs.Choice.{pick}
 use Rattle.base.specs.Lists.{values}
 use Rattle.job.specs.declared.Arrays.{Arrays}
 use Rattle.job.specs.declared.Reading.{Reading}
-use Rattle.job.specs.Job.{Edge, Wire, wireCost, Job, blank}
-use Rattle.job.specs.Record.{Kind, rack, step, link, end, wire, kindOf, bodyLength, empty, stands, full, inRange, misfit, added}
+use Rattle.job.specs.Job.{Edge, Wire, wireCost, Result, resultCount, Job, blank}
+use Rattle.job.specs.Record.{Kind, rack, step, link, end, wire, result, kindOf, bodyLength, empty, stands, full, inRange, misfit}
+use Rattle.job.specs.Record.{added}
 
 -- a file is accepted as a job, or refused with a number of the refusal table
 pub data Answer : Type 0 where
@@ -30,10 +31,11 @@ after rack rest j more = more (bodyLength rack) (added j rack rest)
 after step rest j more = more (bodyLength step) (added j step rest)
 after link rest j more = more (bodyLength link) (added j link rest)
 after wire rest j more = more (bodyLength wire) (added j wire rest)
+after result rest j more = more (bodyLength result) (added j result rest)
 after end rest j more = pick (empty rest) (accepted j) (refused 8)
 
--- one record, of which `rest` follows the kind byte, after the job so far (01: "Within one: 2, 3, 5, 1, 4, 6, 7"; 02 §1: 14 is
--- "judged after 4")
+-- one record, of which `rest` follows the kind byte, after the job so far (01: "Within one: 2, 3, 5, 1, 4, 6, 7"; 02 §1 and §2:
+-- 14 and 15 are "judged after 4")
 unfoldable pub judged : Option Kind → List ℕ → Job → (ℕ → Job → Answer) → Answer
 judged none rest j more = refused 2
 judged (some k) rest j more =
@@ -67,6 +69,10 @@ padded n xs = xs ++ replicate (n - length xs) 0
 unfoldable pub wireArray : List Wire → List ℕ
 wireArray ws = values (λ k. wireCost ws (k / 16) (k % 16)) 0 256
 
+-- results as an array: the count of task T's result at place T, 0 where it has none
+unfoldable pub resultArray : List Result → List ℕ
+resultArray rs = values (resultCount rs) 0 256
+
 -- the arrays of a job
 unfoldable pub arraysOf : Job → Arrays
 arraysOf j = record {
@@ -75,6 +81,7 @@ arraysOf j = record {
   to = padded 1024 (map (λ (e : Edge). e .to) (j .edges));
   counts = padded 1024 (map (λ (e : Edge). e .count) (j .edges));
   wires = wireArray (j .wires);
+  results = resultArray (j .results);
 }
 
 -- the answer as `read` returns it: the verdict beside the platform and the arrays, all 0 on a refusal

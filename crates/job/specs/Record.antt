@@ -9,14 +9,14 @@ use lib.Dec.{leb, ltb, eqb}
 use lib.ListN.{length, getD, take, drop}
 use Rattle.base.specs.Choice.{pick}
 use Rattle.base.specs.Number.{number}
-use Rattle.base.specs.Lists.{upto, filter}
+use Rattle.base.specs.Lists.{upto, any, filter}
 use Rattle.job.specs.declared.Platform.{Platform}
-use Rattle.job.specs.Job.{Edge, Wire, Job, withRack, withWires, withTasks, withEdges}
+use Rattle.job.specs.Job.{Edge, Wire, Result, Job, withRack, withWires, withTasks, withEdges, withResults}
 use Rattle.job.specs.Limits.{mostProcessors, mostUnit, mostWireCost, mostDuration, mostCount, mostTasks, mostEdges}
 
--- 01: "kind | name"; 02 §1: wire
+-- 01: "kind | name"; 02 §1: wire; 02 §2: result
 pub data Kind : Type 0 where
-  rack step link end wire : Kind
+  rack step link end wire result : Kind
 
 -- the kind that a byte names
 unfoldable pub kindOf : ℕ → Option Kind
@@ -26,7 +26,8 @@ kindOf b =
     (pick (eqb b 3) (some link)
     (pick (eqb b 4) (some end)
     (pick (eqb b 5) (some wire)
-    none))))
+    (pick (eqb b 6) (some result)
+    none)))))
 
 -- 01: "a body whose length the kind fixes"
 unfoldable pub bodyLength : Kind → ℕ
@@ -35,6 +36,7 @@ bodyLength step = 4
 bodyLength link = 4
 bodyLength end = 0
 bodyLength wire = 3
+bodyLength result = 3
 
 -- 01: "boards n (1 byte), wiring (1 byte), unit cost c (1 byte)"
 unfoldable pub platformIn : List ℕ → Platform
@@ -52,6 +54,10 @@ edgeIn body = record { from = getD body 0 0; to = getD body 1 0; count = number 
 unfoldable pub wireIn : List ℕ → Wire
 wireIn body = record { from = getD body 0 0; to = getD body 1 0; cost = getD body 2 0 }
 
+-- 02 §2: "step (1 byte), count (2 bytes)"
+unfoldable pub resultIn : List ℕ → Result
+resultIn body = record { task = getD body 0 0; count = number (take 2 (drop 1 body)) }
+
 abbrev pub empty : {A : Type 0} → List A → Bool
 empty [] = true
 empty (x ∷ xs) = false
@@ -61,13 +67,14 @@ unfoldable pub noRack : Job → Bool
 noRack j = eqb (j .platform .processors) 0
 
 -- 01: "One rack, then 1 to 256 steps, then 0 to 1,024 links, then the end record": may the kind stand after what j holds;
--- 02 §1: "kind 5 under another wiring or after a step is 3"
+-- 02 §1: "kind 5 under another wiring or after a step is 3"; 02 §2: results stand "after the links", and so after at least one step
 unfoldable pub stands : Job → Kind → Bool
 stands j rack = noRack j
-stands j step = not (noRack j) && empty (j .edges)
-stands j link = not (empty (j .tasks))
+stands j step = not (noRack j) && empty (j .edges) && empty (j .results)
+stands j link = not (empty (j .tasks)) && empty (j .results)
 stands j end = not (empty (j .tasks))
 stands j wire = not (noRack j) && eqb (j .platform .topology) 3 && empty (j .tasks)
+stands j result = not (empty (j .tasks))
 
 -- 01: "a step past 256 or a link past 1,024"
 unfoldable pub full : Job → Kind → Bool
@@ -76,6 +83,7 @@ full j step = leb mostTasks (length (j .tasks))
 full j link = leb mostEdges (length (j .edges))
 full j end = false
 full j wire = false
+full j result = false
 
 -- 01: "n (1 to 16), wiring (0 flat, 1 cube, 2 ring), c (0 to 100)"; 02 §1: "Wiring 3 is added"
 unfoldable pub platformInRange : Platform → Bool
@@ -85,7 +93,7 @@ platformInRange p = leb 1 (p .processors) && leb (p .processors) mostProcessors 
 unfoldable pub durationInRange : ℕ → Bool
 durationInRange d = leb 1 d && leb d mostDuration
 
--- 01: "message count (1 to 1,000)"
+-- 01: "message count (1 to 1,000)"; 02 §2: a result's "count (2 bytes, 1 to 1,000)"
 unfoldable pub countInRange : ℕ → Bool
 countInRange c = leb 1 c && leb c mostCount
 
@@ -100,6 +108,7 @@ inRange step body = durationInRange (durationIn body)
 inRange link body = countInRange (edgeIn body .count)
 inRange end body = true
 inRange wire body = costInRange (wireIn body .cost)
+inRange result body = countInRange (resultIn body .count)
 
 -- 01: "A link has from below to and to below m"
 unfoldable pub joins : ℕ → Edge → Bool
@@ -136,8 +145,23 @@ isDue (x ∷ xs) w = eqb (w .from) (x .0) && eqb (w .to) (x .1)
 unfoldable pub tooEarly : Job → ℕ
 tooEarly j = pick (not (empty (pairsDue j))) 14 0
 
+-- task T has a successor
+unfoldable pub hasSuccessor : List Edge → ℕ → Bool
+hasSuccessor es T = any (λ e. eqb (e .from) T) es
+
+-- task T stands above that of the last result so far (02 §2: "rising strictly by step")
+unfoldable pub pastResults : List Result → ℕ → Bool
+pastResults [] T = true
+pastResults (r ∷ []) T = ltb (r .task) T
+pastResults (r ∷ s ∷ rs) T = pastResults (s ∷ rs) T
+
+-- 02 §2: "rising strictly by step, only for steps below m with no successor"
+unfoldable pub mayDeliver : Job → ℕ → Bool
+mayDeliver j T = ltb T (length (j .tasks)) && not (hasSuccessor (j .edges) T) && pastResults (j .results) T
+
 -- 01: 6 "from not below to, or to not below m", 7 "a link not above the one before"; 02 §1: 14 "a wire record that is not the next
--- pair due or comes past the last, or a step before all pairs stand"; 0 where the record fits in the job so far
+-- pair due or comes past the last, or a step before all pairs stand"; 02 §2: 15 "a result for a step that is absent, has a successor or is
+-- out of order"; 0 where the record fits in the job so far
 unfoldable pub misfit : Job → Kind → List ℕ → ℕ
 misfit j rack body = 0
 misfit j step body = tooEarly j
@@ -147,6 +171,7 @@ misfit j link body =
     0)
 misfit j end body = 0
 misfit j wire body = pick (not (isDue (pairsDue j) (wireIn body))) 14 0
+misfit j result body = pick (not (mayDeliver j (resultIn body .task))) 15 0
 
 -- the job with one record more
 unfoldable pub added : Job → Kind → List ℕ → Job
@@ -155,3 +180,4 @@ added j step body = withTasks j (durationIn body ∷ [])
 added j link body = withEdges j (edgeIn body ∷ [])
 added j end body = j
 added j wire body = withWires j (wireIn body ∷ [])
+added j result body = withResults j (resultIn body ∷ [])

@@ -31,7 +31,7 @@ read-numbers file n e = ⊎-elim (λ h. reader-number (omega arith)) (λ h. caus
 pub reader-number-some : {n : ℕ} → ReaderNumber n → 1 ≤ n
 unfolding ReaderNumber
 reader-number-some (inl h) = h .0
-reader-number-some (inr h) = omega arith
+reader-number-some (inr h) = omega (arith, h .0)
 
 -- the writer refuses with 5 for a count too large, with the reader's number for the job's file, or with 9 for too little room
 pub write-refused : (m l n : ℕ) (j : Job) (out : List ℕ) → writeAnswer m l j out ≡ Refused n →

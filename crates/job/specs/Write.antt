@@ -6,14 +6,14 @@ use mathlib.Core.List.{List, [], _∷_, _++_, map, flatMap}
 use Prim.Native.Nat.{ℕ, _+_, _*_, _^_, _≤_, _<_}
 use lib.Dec.{ltb}
 use lib.ListN.{length, getD, drop}
-use Rattle.base.specs.Lists.{values}
+use Rattle.base.specs.Lists.{values, upto, filter}
 use Rattle.base.specs.Choice.{pick}
 use Rattle.base.specs.Number.{bytes}
 use Rattle.job.specs.declared.Arrays.{Arrays}
 use Rattle.job.specs.declared.Platform.{Platform}
 use Rattle.job.specs.declared.Written.{Written}
 use Rattle.job.specs.declared.Written.the-variants.{Length, Refused}
-use Rattle.job.specs.Job.{Edge, Wire, Job}
+use Rattle.job.specs.Job.{Edge, Wire, Result, Job}
 use Rattle.job.specs.Limits.{mostTasks, mostEdges}
 use Rattle.job.specs.Record.{wirePairs}
 use Rattle.job.specs.Read.{Answer, accepted, refused, readJob}
@@ -34,15 +34,25 @@ linkBytes e = 3 ∷ e .from ∷ e .to ∷ bytes 2 (e .count)
 unfoldable pub wireBytes : Wire → List ℕ
 wireBytes w = 5 ∷ w .from ∷ w .to ∷ w .cost ∷ []
 
--- the file of a job: the rack, the wires, the steps, the links, the end record
+-- a record of kind 6, result
+unfoldable pub resultBytes : Result → List ℕ
+resultBytes r = 6 ∷ r .task ∷ bytes 2 (r .count)
+
+-- the file of a job: the rack, the wires, the steps, the links, the results, the end record
 unfoldable pub fileOf : Job → List ℕ
 fileOf j =
     rackBytes (j .platform)
-    ++ (flatMap wireBytes (j .wires) ++ (flatMap stepBytes (j .tasks) ++ (flatMap linkBytes (j .edges) ++ (4 ∷ []))))
+    ++ (flatMap wireBytes (j .wires)
+    ++ (flatMap stepBytes (j .tasks) ++ (flatMap linkBytes (j .edges) ++ (flatMap resultBytes (j .results) ++ (4 ∷ [])))))
 
--- 01: "The greatest file has 6,405 bytes"; 02 §1: it "grows by 960 bytes"
+-- 02 §2: "the greatest file has 8,369 bytes" (01: 6,405; 02 §1: it "grows by 960 bytes")
 abbrev pub greatestLength : ℕ
-greatestLength = 7365
+greatestLength = 8369
+
+-- so many bytes settle the answer to a file: a result past the last that could stand is judged by its four bytes, where the greatest file
+-- has its end record
+abbrev pub settlingLength : ℕ
+settlingLength = 8372
 
 -- the edge whose parts stand at place i of three arrays
 unfoldable pub edgeHeld : List ℕ → List ℕ → List ℕ → ℕ → Edge
@@ -52,24 +62,42 @@ edgeHeld from to counts i = record { from = getD from i 0; to = getD to i 0; cou
 unfoldable pub wireHeld : List ℕ → ℕ × ℕ → Wire
 wireHeld costs x = record { from = x .0; to = x .1; cost = getD costs (16 * x .0 + x .1) 0 }
 
--- a job held as numbers: a wire for each pair that has one, the first m durations, the first l edges; spare places are not read
+-- the result of a task, its count at the task's place of an array
+unfoldable pub resultHeld : List ℕ → ℕ → Result
+resultHeld counts T = record { task = T; count = getD counts T 0 }
+
+-- a result for each of the first m tasks that has a count
+unfoldable pub resultsHeld : List ℕ → ℕ → List Result
+resultsHeld counts m = map (resultHeld counts) (filter (λ T. ltb 0 (getD counts T 0)) (upto m))
+
+-- a job held as numbers: a wire for each pair that has one, the first m durations, the first l edges, the results of the first m tasks;
+-- spare places are not read
 unfoldable pub heldJob : Platform → ℕ → ℕ → Arrays → Job
 heldJob p m l a = record {
   platform = p;
   wires = map (wireHeld (a .wires)) (wirePairs p);
   tasks = values (λ t. getD (a .durations) t 0) 0 m;
   edges = values (edgeHeld (a .from) (a .to) (a .counts)) 0 l;
+  results = resultsHeld (a .results) m;
 }
 
 -- the arrays in their struct
-abbrev pub gathered : List ℕ → List ℕ → List ℕ → List ℕ → List ℕ → Arrays
-gathered durations from to counts wires = record { durations = durations; from = from; to = to; counts = counts; wires = wires }
+abbrev pub gathered : List ℕ → List ℕ → List ℕ → List ℕ → List ℕ → List ℕ → Arrays
+gathered durations from to counts wires results = record {
+  durations = durations;
+  from = from;
+  to = to;
+  counts = counts;
+  wires = wires;
+  results = results;
+}
 
--- arrays hold what their types can: durations of 32 bits, an edge's end of 8, message counts of 16
+-- arrays hold what their types can: durations of 32 bits, an edge's end of 8, message counts and results of 16
 pub record Held (a : Arrays) : Type 0 where
   pub duration-fits : (t : ℕ) → getD (a .durations) t 0 < 2 ^ 32
   pub to-fits : (i : ℕ) → getD (a .to) i 0 < 2 ^ 8
   pub count-fits : (i : ℕ) → getD (a .counts) i 0 < 2 ^ 16
+  pub result-fits : (T : ℕ) → getD (a .results) T 0 < 2 ^ 16
 
 -- where the reader accepts it, a file is written; 9 if the output is too short for it
 unfoldable pub roomFor : List ℕ → List ℕ → Answer → Written
@@ -85,9 +113,9 @@ tooMany m l = ltb mostTasks m || ltb mostEdges l
 unfoldable pub writeAnswer : ℕ → ℕ → Job → List ℕ → Written
 writeAnswer m l j out = pick (tooMany m l) (Refused 5) (roomFor (fileOf j) out (readJob (fileOf j)))
 
--- the writer's numbers (01: the refusal table): 3 to 7 and 9
+-- the writer's numbers (01: the refusal table; 02 §2): 3 to 7, 9 and 15
 unfoldable pub WriterNumber : ℕ → Type 0
-WriterNumber n = ((3 ≤ n) × (n ≤ 7)) ⊎ (n ≡ 9)
+WriterNumber n = ((3 ≤ n) × (n ≤ 7)) ⊎ ((n ≡ 9) ⊎ (n ≡ 15))
 
 -- the output afterwards: the file where the job was written, and what it held everywhere else
 unfoldable pub writeOut : Written → Job → List ℕ → List ℕ

@@ -11,8 +11,9 @@ ghost use Rattle.base.specs.Lists.{values};
 ghost use Rattle.base.specs.Slices.{Put};
 ghost use Rattle.job.specs.Job.{Job};
 ghost use Rattle.job.specs.Record.{platformInRange, wirePairs};
-ghost use Rattle.job.specs.Write.{edgeHeld, wireHeld, heldJob, gathered, wireBytes, stepBytes, linkBytes, fileOf};
-ghost use Rattle.job.specs.Pass.{edge, wiresTrouble, StepsJudged, LinksJudged, Met};
+ghost use Rattle.job.specs.Write.{edgeHeld, wireHeld, resultsHeld, heldJob, gathered, wireBytes, stepBytes, linkBytes, resultBytes};
+ghost use Rattle.job.specs.Write.{fileOf};
+ghost use Rattle.job.specs.Pass.{edge, resultOf, wiresTrouble, StepsJudged, LinksJudged, ResultsJudged, Met};
 
 // The first trouble among the wires, or 0 for none.
 fn wires_trouble(platform: Platform, costs: &[u8]) -> u8
@@ -66,6 +67,51 @@ fn links_trouble(tasks: usize, edges: usize, from: &[u8], to: &[u8], counts: &[u
         }
         least = record::key(f, t) + 1;
         i += 1;
+    }
+    0
+}
+
+// How many of the first `tasks` tasks have a result.
+pub fn result_count(results: &[u16; 256], tasks: usize) -> usize
+    requires { ⌜ tasks ≤ 256 ⌝ }
+    ensures { λ r. ⌜ (r ≡ length (resultsHeld (now (results .entry)) tasks)) × (r ≤ 256) ⌝ }
+{
+    let mut count: usize = 0;
+    let mut t: usize = 0;
+    while t < tasks {
+        if results[t] != 0 {
+            count += 1;
+        }
+        t += 1;
+    }
+    count
+}
+
+// The first trouble among the `many` results of the first `tasks` tasks, or 0 for none.
+fn results_trouble(
+    tasks: usize,
+    edges: usize,
+    many: usize,
+    from: &[u8; 1024],
+    results: &[u16],
+) -> u8
+    requires { ⌜ (tasks ≤ 256) × (edges ≤ 1024) × (tasks ≤ length (now results)) × (many ≡ length (resultsHeld (now results) tasks)) ⌝ }
+    ensures { λ r. ⌜ ResultsJudged (now (from .entry)) (now (results .entry)) tasks edges r ⌝ }
+{
+    if many == 0 {
+        return 0;
+    }
+    let sent = record::senders(from, edges);
+    let mut t: usize = 0;
+    while t < tasks {
+        let count = results[t];
+        if count != 0 {
+            let trouble = record::delivery_trouble(sent[t], count);
+            if trouble != 0 {
+                return trouble;
+            }
+        }
+        t += 1;
     }
     0
 }
@@ -177,20 +223,66 @@ fn put_links(
     at
 }
 
+// Puts a result.
+fn put_result(task: usize, count: u16, out: &mut [u8], at: usize) -> usize
+    requires { ⌜ (task < 256) × (at + 4 ≤ length (now out)) ⌝ }
+    ensures { λ r. ⌜ Put (now (out .entry)) (now (out .exit)) at r (resultBytes (resultOf task count)) ⌝ }
+{
+    let second = count / 256;
+    put4(
+        out,
+        at,
+        6,
+        task as u8,
+        (count % 256) as u8,
+        (second % 256) as u8,
+    )
+}
+
+// Puts the `many` results of the first `tasks` tasks.
+fn put_results(
+    results: &[u16; 256],
+    tasks: usize,
+    many: usize,
+    out: &mut [u8],
+    start: usize,
+) -> usize
+    requires { ⌜ (tasks ≤ 256) × (many ≡ length (resultsHeld (now results) tasks)) ⌝ }
+    requires { ⌜ start + length (flatMap resultBytes (resultsHeld (now results) tasks)) ≤ length (now out) ⌝ }
+    ensures { λ r. ⌜ Put (now (out .entry)) (now (out .exit)) start r
+        (flatMap resultBytes (resultsHeld (now (results .entry)) tasks)) ⌝ }
+{
+    let mut at = start;
+    if many == 0 {
+        return at;
+    }
+    let mut t: usize = 0;
+    while t < tasks {
+        let count = results[t];
+        if count != 0 {
+            at = put_result(t, count, out, at);
+        }
+        t += 1;
+    }
+    at
+}
+
 // The trouble of a job held as numbers, as the reader would meet its records, or 0 for none.
 pub fn job_trouble<'a>(
     platform: Platform,
     tasks: usize,
     edges: usize,
+    many: usize,
     durations: &'a [u32; 256],
     from: &'a [u8; 1024],
     to: &'a [u8; 1024],
     counts: &'a [u16; 1024],
     costs: &'a [u8; 256],
+    results: &'a [u16; 256],
 ) -> u8
-    requires { ⌜ (tasks ≤ 256) × (edges ≤ 1024) ⌝ }
-    ensures { λ r. ⌜ Met (heldJob platform tasks edges
-        (gathered (now (durations .entry)) (now (from .entry)) (now (to .entry)) (now (counts .entry)) (now (costs .entry)))) r ⌝ }
+    requires { ⌜ (tasks ≤ 256) × (edges ≤ 1024) × (many ≡ length (resultsHeld (now results) tasks)) ⌝ }
+    ensures { λ r. ⌜ Met (heldJob platform tasks edges (gathered (now (durations .entry))
+        (now (from .entry)) (now (to .entry)) (now (counts .entry)) (now (costs .entry)) (now (results .entry)))) r ⌝ }
     ensures { λ r. ⌜ (r ≡ 0 → Holds (platformInRange platform)) ⌝ }
 {
     let trouble = record::platform_trouble(platform);
@@ -208,7 +300,11 @@ pub fn job_trouble<'a>(
     if trouble != 0 {
         return trouble;
     }
-    links_trouble(tasks, edges, from, to, counts)
+    let trouble = links_trouble(tasks, edges, from, to, counts);
+    if trouble != 0 {
+        return trouble;
+    }
+    results_trouble(tasks, edges, many, from, results)
 }
 
 // The wires of a rack: one for each pair under topology 3, none under another.
@@ -223,13 +319,13 @@ fn wire_count(platform: Platform) -> usize
     n * (n - 1)
 }
 
-// The length of the file of a job with this rack and its wires, and so many tasks and edges.
-pub fn file_length(platform: Platform, tasks: usize, edges: usize) -> usize
-    requires { ⌜ Holds (platformInRange platform) × (tasks ≤ 256) × (edges ≤ 1024) ⌝ }
+// The length of the file of a job with this rack and its wires, and so many tasks, edges and results.
+pub fn file_length(platform: Platform, tasks: usize, edges: usize, many: usize) -> usize
+    requires { ⌜ Holds (platformInRange platform) × (tasks ≤ 256) × (edges ≤ 1024) × (many ≤ 256) ⌝ }
     ensures { λ r. ⌜ ((j : Job) → length (j .wires) ≡ length (wirePairs platform) → length (j .tasks) ≡ tasks → length (j .edges) ≡ edges
-        → r ≡ length (fileOf j)) ⌝ }
+        → length (j .results) ≡ many → r ≡ length (fileOf j)) ⌝ }
 {
-    5 + 4 * wire_count(platform) + 5 * (tasks + edges)
+    5 + 4 * (wire_count(platform) + many) + 5 * (tasks + edges)
 }
 
 // Puts the file of a job held as numbers at the front, and answers its length.
@@ -237,18 +333,20 @@ pub fn put_job<'a>(
     platform: Platform,
     tasks: usize,
     edges: usize,
+    many: usize,
     durations: &'a [u32; 256],
     from: &'a [u8; 1024],
     to: &'a [u8; 1024],
     counts: &'a [u16; 1024],
     costs: &'a [u8; 256],
+    results: &'a [u16; 256],
     out: &mut [u8],
 ) -> usize
-    requires { ⌜ Holds (platformInRange platform) × (tasks ≤ 256) × (edges ≤ 1024) ⌝ }
+    requires { ⌜ Holds (platformInRange platform) × (tasks ≤ 256) × (edges ≤ 1024) × (many ≡ length (resultsHeld (now results) tasks)) ⌝ }
     requires { ⌜ length (fileOf (heldJob platform tasks edges
-        (gathered (now durations) (now from) (now to) (now counts) (now costs)))) ≤ length (now out) ⌝ }
-    ensures { λ r. ⌜ Put (now (out .entry)) (now (out .exit)) 0 r (fileOf (heldJob platform tasks edges
-        (gathered (now (durations .entry)) (now (from .entry)) (now (to .entry)) (now (counts .entry)) (now (costs .entry))))) ⌝ }
+        (gathered (now durations) (now from) (now to) (now counts) (now costs) (now results)))) ≤ length (now out) ⌝ }
+    ensures { λ r. ⌜ Put (now (out .entry)) (now (out .exit)) 0 r (fileOf (heldJob platform tasks edges (gathered (now (durations .entry))
+        (now (from .entry)) (now (to .entry)) (now (counts .entry)) (now (costs .entry)) (now (results .entry))))) ⌝ }
 {
     let wires = put4(
         out,
@@ -260,7 +358,8 @@ pub fn put_job<'a>(
     );
     let steps = put_wires(platform, costs, out, wires);
     let links = put_steps(durations, tasks, out, steps);
-    let end = put_links(edges, from, to, counts, out, links);
+    let delivered = put_links(edges, from, to, counts, out, links);
+    let end = put_results(results, tasks, many, out, delivered);
     out[end] = 4;
     end + 1
 }

@@ -21,14 +21,16 @@ pub enum Verdict {
     Refused(u8),
 }
 
-// A job's numbers: the duration of each task, the ends and the message count of each edge, and under topology 3 the cost of the wire from
-// p to q at 16 p + q. Places past the last, and those of no wire, are spare.
+// A job's numbers: the duration of each task, the ends and the message count of each edge, under topology 3 the cost of the wire from
+// p to q at 16 p + q, and the message count of each task's result, 0 where it has none. Places past the last, and those of no wire, are
+// spare.
 pub struct Arrays {
     pub durations: [u32; 256],
     pub from: [u8; 1024],
     pub to: [u8; 1024],
     pub counts: [u16; 1024],
     pub wires: [u8; 256],
+    pub results: [u16; 256],
 }
 
 // The verdict beside the job: spare places are 0, all are 0 on a refusal. The arrays stand first, so that they are copied aligned.
@@ -63,6 +65,7 @@ fn zeros() -> Arrays
         to: [0u8; 1024],
         counts: [0u16; 1024],
         wires: [0u8; 256],
+        results: [0u16; 256],
     }
 }
 
@@ -115,7 +118,16 @@ pub fn read(file: &[u8]) -> Reading
         least = link.least;
         at = link.next;
     }
-    let trouble = parse::end(file, at);
+    let mut next = at;
+    if parse::stands(file, at, 6) {
+        let sent = record::senders(&arrays.from, edges);
+        let results = parse::results(file, at, tasks, &sent, &mut arrays.results);
+        if results.trouble != 0 {
+            return refusal(results.trouble);
+        }
+        next = results.next;
+    }
+    let trouble = parse::end(file, next);
     if trouble != 0 {
         return refusal(trouble);
     }
@@ -126,7 +138,8 @@ pub fn read(file: &[u8]) -> Reading
     }
 }
 
-// Writes a job held as numbers: its platform and wires, its first `tasks` durations and its first `edges` edges (01: the writer).
+// Writes a job held as numbers: its platform and wires, the durations and results of its first `tasks` tasks and its first `edges` edges
+// (01: the writer).
 // Nothing is written before the whole job is judged.
 pub fn write(
     platform: Platform,
@@ -143,31 +156,36 @@ pub fn write(
     if 1024 < edges {
         return Written::Refused(5);
     }
+    let many = emit::result_count(&arrays.results, tasks);
     let number = emit::job_trouble(
         platform,
         tasks,
         edges,
+        many,
         &arrays.durations,
         &arrays.from,
         &arrays.to,
         &arrays.counts,
         &arrays.wires,
+        &arrays.results,
     );
     if 0 < number {
         return Written::Refused(number);
     }
-    if out.len() < emit::file_length(platform, tasks, edges) {
+    if out.len() < emit::file_length(platform, tasks, edges, many) {
         return Written::Refused(9);
     }
     let length = emit::put_job(
         platform,
         tasks,
         edges,
+        many,
         &arrays.durations,
         &arrays.from,
         &arrays.to,
         &arrays.counts,
         &arrays.wires,
+        &arrays.results,
         out,
     );
     Written::Length(length)

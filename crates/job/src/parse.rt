@@ -8,10 +8,10 @@ ghost use Prim.Native.Nat.{_≤_, _<_};
 ghost use mathlib.Core.List.{[]};
 ghost use lib.Dec.{T as Holds};
 ghost use lib.ListN.{length, getD, replicate};
-ghost use Rattle.job.specs.Record.{step as isStep, link as isLink, wire as isWire, kindOf, platformInRange};
-ghost use Rattle.job.specs.Read.{wireArray};
+ghost use Rattle.job.specs.Record.{step as isStep, link as isLink, wire as isWire, result as isResult, kindOf, platformInRange};
+ghost use Rattle.job.specs.Read.{wireArray, resultArray};
 ghost use Rattle.job.specs.Pass.{StandsThere, misplacedNumber, RackPassed, OnPair, WirePassed, EarlyPassed, WiresPassed};
-ghost use Rattle.job.specs.Pass.{StepPassed, StepsPassed, LinkPassed, EndPassed};
+ghost use Rattle.job.specs.Pass.{StepPassed, StepsPassed, LinkPassed, ResultPassed, ResultsPassed, EndPassed};
 
 // The rack's trouble, or 0 with its values and the place after it.
 pub struct FoundRack {
@@ -34,7 +34,7 @@ pub struct FoundWire {
     pub next: usize,
 }
 
-// The trouble that a pass met that keeps no count, or 0 with the place after it.
+// The trouble that a pass over wires or results met, or 0 with the place after them.
 pub struct Passage {
     pub trouble: u8,
     pub next: usize,
@@ -47,6 +47,14 @@ pub struct FoundLink {
     pub to: u8,
     pub count: u16,
     pub least: u32,
+    pub next: usize,
+}
+
+// A result's trouble, or 0 with its values and the place after it.
+pub struct FoundResult {
+    pub trouble: u8,
+    pub task: u8,
+    pub count: u16,
     pub next: usize,
 }
 
@@ -77,6 +85,7 @@ fn misplaced(kind: u8) -> u8
         3 => 3,
         4 => 3,
         5 => 3,
+        6 => 3,
         _ => 2,
     }
 }
@@ -304,6 +313,62 @@ pub fn link(file: &[u8], at: usize, tasks: usize, edges: usize, least: u32) -> F
         count,
         least: record::key(from, to) + 1,
         next: at + 5,
+    }
+}
+
+// The result at `at`, after `tasks` steps, of which `sent` says which have a successor; `least` is the least task above that of the last
+// result.
+fn result(file: &[u8], at: usize, tasks: usize, least: usize, sent: &[bool; 256]) -> FoundResult
+    requires { ⌜ (at < length (now file)) × (kindOf (getD (now file) at 0) ≡ some isResult) ⌝ }
+    ensures { λ r. ⌜ ResultPassed (now (file .entry)) at tasks least (now (sent .entry)) r ⌝ }
+{
+    if file.len() - at < 4 {
+        return FoundResult {
+            trouble: 1,
+            task: 0,
+            count: 0,
+            next: at,
+        };
+    }
+    let task = file[at + 1];
+    let count = record::number2(file, at + 2);
+    FoundResult {
+        trouble: record::result_trouble(task, count, tasks, least, sent[base::index(task)]),
+        task,
+        count,
+        next: at + 4,
+    }
+}
+
+// The results from `start` on, after `tasks` steps, of which `sent` says which have a successor.
+pub fn results(
+    file: &[u8],
+    start: usize,
+    tasks: usize,
+    sent: &[bool; 256],
+    counts: &mut [u16; 256],
+) -> Passage
+    requires { ⌜ (start ≤ length (now file)) × (tasks ≤ 256) × (now counts ≡ resultArray []) ⌝ }
+    ensures { λ r. ⌜ ResultsPassed (now (file .entry)) start tasks (now (sent .entry)) (now (counts .exit)) r ⌝ }
+{
+    let mut least: usize = 0;
+    let mut at = start;
+    while stands(file, at, 6) {
+        let result = result(file, at, tasks, least, sent);
+        if result.trouble != 0 {
+            return Passage {
+                trouble: result.trouble,
+                next: at,
+            };
+        }
+        let task = base::index(result.task);
+        counts[task] = result.count;
+        least = task + 1;
+        at = result.next;
+    }
+    Passage {
+        trouble: 0,
+        next: at,
     }
 }
 

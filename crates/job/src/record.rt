@@ -1,11 +1,12 @@
-// The numbers of a record, and the trouble of one: its refusal's number among 4, 6, 7 and 14, or 0 for none.
+// The numbers of a record, and the trouble of one: its refusal's number among 4, 6, 7, 14 and 15, or 0 for none.
 use crate::Platform;
 ghost use mathlib.Core.Path.{_≡_};
 ghost use Prim.Native.Nat.{_+_, _*_, _≤_, _<_};
 ghost use lib.ListN.{length, take, drop};
+ghost use Rattle.base.specs.Lists.{values};
 ghost use Rattle.base.specs.Number.{number};
-ghost use Rattle.job.specs.Pass.{edge, key, wireOf, OnPair, PairAfter, dueFrom};
-ghost use Rattle.job.specs.Pass.{platformTrouble, costTrouble, wireTrouble, stepTrouble, linkTrouble};
+ghost use Rattle.job.specs.Pass.{edge, key, wireOf, resultOf, OnPair, PairAfter, dueFrom, sends};
+ghost use Rattle.job.specs.Pass.{platformTrouble, costTrouble, wireTrouble, stepTrouble, linkTrouble, deliveryTrouble, resultTrouble};
 
 // A pair of processors, or past the last one: then `from` is their number n.
 pub struct Pair {
@@ -140,6 +141,53 @@ pub fn link_trouble(from: u8, to: u8, count: u16, tasks: usize, least: u32) -> u
     }
     if key(from, to) < least {
         return 7;
+    }
+    0
+}
+
+// Which tasks have a successor: those that one of the first `edges` edges comes from.
+pub fn senders(from: &[u8; 1024], edges: usize) -> [bool; 256]
+    requires { ⌜ edges ≤ 1024 ⌝ }
+    ensures { λ r. ⌜ r ≡ values (sends (now (from .entry)) edges) 0 256 ⌝ }
+{
+    let mut senders = [false; 256];
+    let mut k: usize = 0;
+    while k < edges {
+        senders[base::index(from[k])] = true;
+        k += 1;
+    }
+    senders
+}
+
+// `sent`: the task has a successor.
+pub fn delivery_trouble(sent: bool, messages: u16) -> u8
+    ensures { λ r. ⌜ r ≡ deliveryTrouble sent messages ⌝ }
+{
+    if messages < 1 {
+        return 4;
+    }
+    if 1000 < messages {
+        return 4;
+    }
+    if sent {
+        return 15;
+    }
+    0
+}
+
+// `least` is the least task above that of the result before.
+pub fn result_trouble(task: u8, count: u16, tasks: usize, least: usize, sent: bool) -> u8
+    ensures { λ r. ⌜ r ≡ resultTrouble tasks least sent (resultOf task count) ⌝ }
+{
+    let trouble = delivery_trouble(sent, count);
+    if trouble != 0 {
+        return trouble;
+    }
+    if tasks <= task as usize {
+        return 15;
+    }
+    if (task as usize) < least {
+        return 15;
     }
     0
 }

@@ -1,19 +1,18 @@
 -- `read`: the loop over the links keeps that the answer to the file is the answer to its rest, with the job that the arrays hold so far;
 -- each return is that answer after a part of the file.
-use mathlib.Core.Bool.{not, _&&_}
-use mathlib.Core.Logic.{_⊎_, inl, inr}
+use mathlib.Core.Bool.{Bool, false, not}
+use mathlib.Core.Logic.{_⊎_, inl, inr, ⊎-elim}
 use mathlib.Core.Path.{_≡_, refl, ap, sym, _∙_}
 use mathlib.Core.List.{List, [], _∷_, map}
 use mathlib.Core.Option.{some}
 use Prim.Native.Nat.{ℕ, _+_, _-_, _≤_, _<_}
 use native.Mathlib.Omega.{arith}
 use borrow.Author.Needs.{needs}
-use lib.Dec.{eqb}
 use lib.Dec.{T as Holds}
 use lib.ListN.{length, getD, drop, set}
 use Rattle.base.specs.Lists.{values}
-use Rattle.base.specs.Laws.Tests.{fails, not-both, second, ne→neqb, when-true, when-false}
-use Rattle.base.specs.Laws.Values.{length-values}
+use Rattle.base.specs.Laws.Tests.{fails, ne→neqb, when-true, when-false}
+use Rattle.base.specs.Laws.Values.{length-values, value-at}
 use Rattle.job.specs.declared.Arrays.{Arrays}
 use Rattle.job.specs.declared.Platform.{Platform}
 use Rattle.job.specs.declared.Reading.{Reading}
@@ -22,17 +21,18 @@ use Rattle.job.specs.declared.parse.FoundLink.{FoundLink}
 use Rattle.job.specs.declared.parse.FoundRack.{FoundRack}
 use Rattle.job.specs.declared.parse.Pass.{Pass}
 use Rattle.job.specs.declared.parse.Passage.{Passage}
-use Rattle.job.specs.Job.{Job, blank, withRack, withWires, withTasks, withEdges}
-use Rattle.job.specs.Record.{Kind, rack, step, link, end, wire, kindOf, empty, noRack, stands, wirePairs}
-use Rattle.job.specs.Read.{Answer, accepted, refused, refusedOr, records, readJob, padded, arraysOf, readingOf}
-use Rattle.job.specs.Write.{wireHeld, heldJob, gathered}
-use Rattle.job.specs.Pass.{edge, RackPassed, WiresPassed, StepsPassed, LinkDue, LinkPassed, EndDue, EndPassed}
+use Rattle.job.specs.Job.{Job, blank, withRack, withWires, withTasks, withEdges, withResults}
+use Rattle.job.specs.Record.{Kind, rack, step, link, end, wire, result, kindOf, noRack, stands, wirePairs}
+use Rattle.job.specs.Read.{Answer, accepted, refused, refusedOr, records, readJob, padded, resultArray, arraysOf, readingOf}
+use Rattle.job.specs.Write.{wireHeld, resultsHeld, heldJob, gathered}
+use Rattle.job.specs.Pass.{edge, sends, RackPassed, WiresPassed, StepsPassed, LinkDue, LinkPassed, ResultsTaken, ResultsPassed}
+use Rattle.job.specs.Pass.{EndPassed}
 use Rattle.job.specs.Laws.Judged.{passes, stops}
 use Rattle.job.specs.Laws.Kinds.{kind-byte}
-use Rattle.job.specs.Laws.Lists.{empty-nil}
 use Rattle.job.specs.Laws.Tests.{platform-facts}
-use Rattle.job.specs.Laws.Due.{first-link, next-link}
+use Rattle.job.specs.Laws.Due.{first-link, next-link, step-placed, link-placed, wire-placed}
 use Rattle.job.specs.Laws.Columns.{edges-set}
+use Rattle.job.specs.Laws.Results.{no-results, array-none, sends-are, past-none}
 use Rattle.job.specs.Laws.Spare.{Filled, front-none, front-set, arrays-back}
 use Rattle.job.proofs.read.Statement.{statement}
 use Rattle.job.proofs.read.Tie as tie
@@ -69,10 +69,12 @@ module _ (file : List ℕ) (rack : FoundRack) (x : RackPassed file rack) (ok : r
       after-steps = after-wires ∙ passes _ _ even ∙ y .answer joined (v .taken even .due)
 
       begun : steps .trouble ≡ 0 → (z : Arrays) → z ≡ arraysOf blank →
-          Going file (rack .platform) (steps .count) (gathered durations (z .from) (z .to) (z .counts) costs) 0 (steps .next) 0
+          Going file (rack .platform) (steps .count) (gathered durations (z .from) (z .to) (z .counts) costs (z .results)) 0 (steps .next) 0
       unfolding heldJob values blank arraysOf padded
       begun fine z e =
           let t = y .taken fine in
+          let empty : z .results ≡ resultArray [] = ap (λ (a : Arrays). a .results) e in
+          let none : resultsHeld (z .results) (steps .count) ≡ [] = no-results (z .results) (steps .count) (λ T. rw empty (array-none T)) in
           record {
             some-processor = platform-facts (rack .platform) (x .in-range ok) .0;
             some-task = t .some-task;
@@ -86,19 +88,23 @@ module _ (file : List ℕ) (rack : FoundRack) (x : RackPassed file rack) (ok : r
               to = front-none 1024 (z .to) (rw e);
               counts = front-none 1024 (z .counts) (rw e);
               wires = v .taken even .spare;
+              results = ap resultArray none ∙ sym empty;
             };
-            due = first-link _ (steps .count) (t .some-task) (length-values _ 0 (steps .count)) refl;
-            same = after-steps ∙ passes _ _ fine;
+            due = first-link _ (steps .count) (t .some-task) (length-values _ 0 (steps .count)) refl none;
+            same = rw none (after-steps ∙ passes _ _ fine);
           }
 
-module _ (file : List ℕ) (p : Platform) (m : ℕ) (a : Arrays) (l at least : ℕ) (g : Going file p m a l at least) where
+module _ {file : List ℕ} {p : Platform} {m : ℕ} {a : Arrays} {l at least : ℕ} (g : Going file p m a l at least) where
+  abbrev held : Job
+  held = heldJob p m l a
+
   bad : (r : FoundLink) → LinkPassed file at m l least r → readJob file ≡
-      refusedOr (r .trouble) (records (drop (r .next) file) 0 (withEdges (heldJob p m l a) (edge (r .from) (r .to) (r .count) ∷ [])))
-  bad r x = g .same ∙ x .answer (heldJob p m l a) (g .due)
+      refusedOr (r .trouble) (records (drop (r .next) file) 0 (withEdges held (edge (r .from) (r .to) (r .count) ∷ [])))
+  bad r x = g .same ∙ x .answer held (g .due)
 
   on : (r : FoundLink) → LinkPassed file at m l least r → r .trouble ≡ 0 →
-      Going file p m (gathered (a .durations) (set (a .from) l (r .from)) (set (a .to) l (r .to)) (set (a .counts) l (r .count)) (a .wires))
-      (l + 1) (r .next) (r .least)
+      Going file p m (gathered (a .durations) (set (a .from) l (r .from)) (set (a .to) l (r .to)) (set (a .counts) l (r .count)) (a .wires)
+      (a .results)) (l + 1) (r .next) (r .least)
   unfolding heldJob
   on r x z =
       let few : l < 1024 = x .few z in
@@ -117,39 +123,95 @@ module _ (file : List ℕ) (p : Platform) (m : ℕ) (a : Arrays) (l at least : �
           to = front-set (g .filled .to) (r .to) few;
           counts = front-set (g .filled .counts) (r .count) few;
           wires = g .filled .wires;
+          results = g .filled .results;
         };
         due = rw (grown, x .least-is) (next-link (g .due) (edge (r .from) (r .to) (r .count)) (x .byte));
         same = bad r x ∙ passes _ _ z ∙ rw grown;
       }
 
-  -- after the links nothing but the end record may stand
-  ending : (at < length file → getD file at 0 ≡ 3 → ⊥) → EndDue file at (heldJob p m l a)
-  unfolding heldJob stands noRack
-  ending other = record { placed = g .due .placed; alone = alone }
-    where
-      alone : at < length file → (k : Kind) → kindOf (getD file at 0) ≡ some k → (k ≡ end) ⊎ Holds (not (stands (heldJob p m l a) k))
-      alone h rack e = inr (ne→neqb (p .processors) 0 (λ q. omega (arith, g .some-processor)))
-      alone h step e =
-          let j = heldJob p m l a in
-          let edged : Holds (empty (j .edges)) → ⊥ =
-          λ t. g .over (sym (g .due .edges-are) ∙ ap length (empty-nil (j .edges) t)) e in
-          inr (fails (stands j step) (λ t. edged (second (not (noRack j)) (empty (j .edges)) t)))
-      alone h link e = absurd (other h (kind-byte (getD file at 0) link e))
-      alone h end e = inl refl
-      alone h wire e =
-          let j = heldJob p m l a in
-          let tested = not (noRack j) && eqb (p .topology) 3 in
-          inr (fails (stands j wire) (λ t. not-both (empty (j .tasks)) (g .due .placed) (second tested (empty (j .tasks)) t)))
+  -- after the links there are a task and no result yet
+  placed : Holds (stands held result)
+  unfolding stands
+  placed = link-placed held (g .due .placed) .0
 
-  ended : EndDue file at (heldJob p m l a) → (n : ℕ) → EndPassed file at n → readJob file ≡ refusedOr n (accepted (heldJob p m l a))
-  ended s n x = g .same ∙ x (heldJob p m l a) s
+  none-yet : held .results ≡ []
+  none-yet = link-placed held (g .due .placed) .1
 
-  done : EndDue file at (heldJob p m l a) → (n : ℕ) → EndPassed file at n → n ≡ 0 →
-      record { verdict = Counts m l; platform = p; arrays = a } ≡ readingOf (readJob file)
-  unfolding readingOf heldJob
-  done s n x z =
-      let e : readJob file ≡ accepted (heldJob p m l a) = ended s n x ∙ passes n _ z in
-      rw (e, g .due .tasks-are, g .due .edges-are, arrays-back p (g .filled) (g .few-tasks) (g .few-edges))
+  undelivered : a .results ≡ resultArray []
+  unfolding heldJob
+  undelivered = sym (g .filled .results) ∙ ap resultArray none-yet
+
+  -- nothing but the end record may stand at place `next`, and the arrays hold the job
+  record Ready (b : Arrays) (next : ℕ) : Type 0 where
+    inside : next ≤ length file
+    answer : (n : ℕ) → EndPassed file next n → readJob file ≡ refusedOr n (accepted (heldJob p m l b))
+    whole : record { verdict = Counts m l; platform = p; arrays = b } ≡ readingOf (accepted (heldJob p m l b))
+
+  abbrev with : List ℕ → Arrays
+  with counts = gathered (a .durations) (a .from) (a .to) (a .counts) (a .wires) counts
+
+  -- no record of the kind with this byte stands at place `at`
+  abbrev NoneOf : ℕ → Type 0
+  NoneOf byte = at < length file → getD file at 0 ≡ byte → ⊥
+
+  module _ (no-link : NoneOf 3) (counts : List ℕ) (next : ℕ) (t : ResultsTaken file at m counts next) where
+    abbrev job : Job
+    job = heldJob p m l (with counts)
+
+    alone : next < length file → (k : Kind) → kindOf (getD file next 0) ≡ some k → (k ≡ end) ⊎ Holds (not (stands job k))
+    unfolding heldJob stands noRack
+    alone h rack e = inr (ne→neqb (p .processors) 0 (λ q. omega (arith, g .some-processor)))
+    alone h step e = inr (fails (stands job step) (λ s.
+        let f = step-placed job s in
+        g .over (sym (g .due .edges-are) ∙ ap length (f .1)) (rw (t .first (f .2)) at e)))
+    alone h link e = inr (fails (stands job link) (λ s.
+        let i = t .first (link-placed job s .1) in
+        no-link (rw i at h) (kind-byte (getD file at 0) link (rw i at e))))
+    alone h end e = inl refl
+    alone h wire e = inr (fails (stands job wire) (λ s.
+        let n : length (job .tasks) ≡ 0 = ap length (wire-placed job s .2) in omega (arith, g .some-task, g .due .tasks-are)))
+    alone h result e = absurd (t .over h e)
+
+    ready : readJob file ≡ records (drop next file) 0 job → Ready (with counts) next
+    unfolding heldJob stands readingOf
+    ready same =
+        let f : Filled p m l (with counts) = record {
+          durations = g .filled .durations;
+          from = g .filled .from;
+          to = g .filled .to;
+          counts = g .filled .counts;
+          wires = g .filled .wires;
+          results = t .spare;
+        } in
+        record {
+          inside = t .inside;
+          answer = λ n y. same ∙ y job (record { placed = placed; alone = alone });
+          whole = rw (g .due .tasks-are, g .due .edges-are, arrays-back p f (g .few-tasks) (g .few-edges));
+        }
+
+  module _ {sent : List Bool} (e : sent ≡ values (sends (a .from) l) 0 256) {counts : List ℕ} {r : Passage}
+      (x : ResultsPassed file at m sent counts r) where
+    after-results : readJob file ≡ refusedOr (r .trouble) (records (drop (r .next) file) 0 (withResults held (resultsHeld counts m)))
+    unfolding heldJob
+    after-results = g .same ∙ x .answer held (record {
+      placed = placed;
+      tasks-are = g .due .tasks-are;
+      sent-are = λ T h. rw e (value-at (sends (a .from) l) false 256 T h ∙ sym (sends-are (a .from) (a .to) (a .counts) l T));
+      above = λ T. rw none-yet (past-none T);
+    })
+
+    -- the results are taken; or none stands there
+    taken : r .trouble ≡ 0 → NoneOf 3 → Ready (with counts) (r .next)
+    unfolding heldJob
+    taken z no-link = ready no-link counts (r .next) (x .taken z) (after-results ∙ passes _ _ z ∙ rw none-yet)
+
+  untaken : NoneOf 6 → NoneOf 3 → Ready a at
+  untaken no-result no-link = ready no-link (a .results) at (record {
+    inside = g .inside;
+    first = λ z. refl;
+    over = λ h e. no-result h (kind-byte (getD file at 0) result e);
+    spare = g .filled .results;
+  }) (g .same)
 
 abbrev Inv-loop : tie.InvT-loop
 Inv-loop file platform arrays₀ tasks edges₀ least₀ at₀ arrays edges least at = Going file platform tasks arrays edges at least
@@ -233,7 +295,7 @@ returns-4 : tie.Need-returns-4 Inv-loop μ-loop
 returns-4 c =
     let at-link = c .before .before .before in
     refuse _ _ _ _ (c .refusal4 .ensures) (c .before .if5 .taken)
-    (bad _ _ _ _ _ _ _ (at-link .before .before .before .loop .inv) _ (at-link .link .ensures))
+    (bad (at-link .before .before .before .loop .inv) _ (at-link .link .ensures))
 
 element-write-arrays : tie.Need-element-write-arrays Inv-loop μ-loop
 element-write-arrays c = c .before .before .link .ensures .few (c .if5 .left)
@@ -258,32 +320,59 @@ loop-less c =
 loop-again : tie.Need-loop-again Inv-loop μ-loop
 loop-again c =
     let at-link = c .before .before in
-    on _ _ _ _ _ _ _ (at-link .before .before .before .loop .inv) _ (at-link .link .ensures) (c .if5 .left)
+    on (at-link .before .before .before .loop .inv) _ (at-link .link .ensures) (c .if5 .left)
 
-end-requires : tie.Need-end-requires Inv-loop μ-loop
-end-requires c κs = c .before .before .loop .inv .inside
+stands-requires-2 : tie.Need-stands-requires-2 Inv-loop μ-loop
+stands-requires-2 c κs = search needs
+
+senders-requires : tie.Need-senders-requires Inv-loop μ-loop
+senders-requires c κs = c .before .before .before .before .before .before .loop .inv .few-edges
+
+results-requires : tie.Need-results-requires Inv-loop μ-loop
+results-requires c κs =
+    let g = c .before .before .before .before .before .before .before .before .before .loop .inv in
+    (g .inside, g .few-tasks, undelivered g)
 
 refusal-requires-5 : tie.Need-refusal-requires-5 Inv-loop μ-loop
 refusal-requires-5 c κs = search needs
 
 returns-5 : tie.Need-returns-5 Inv-loop μ-loop
 returns-5 c =
-    let at-end = c .before .before in
-    let at-if4 = at-end .before in
+    let at-results = c .before .before .before in
+    let at-senders = at-results .before .before .before in
+    let at-loop = at-senders .before .before .before .before .before .before .before in
+    refuse _ _ _ _ (c .refusal5 .ensures) (c .before .if7 .taken)
+    (after-results (at-loop .loop .inv) (at-senders .senders .ensures) (at-results .results .ensures))
+
+-- after the results, if there are any
+at-end : (c : tie.Joined6 Inv-loop μ-loop) → Ready (c .before .before .before .before .loop .inv) (c .if6 .arrays) (c .if6 .next)
+at-end c =
+    let at-if4 = c .before .before in
     let at-stands = at-if4 .before in
-    let at-loop = at-stands .before in
-    let s = ending _ _ _ _ _ _ _ (at-loop .loop .inv) (at-stands .stands .ensures .no (when-false (at-if4 .if4 .left))) in
-    refuse _ _ _ _ (c .refusal5 .ensures) (c .before .if6 .taken)
-    (ended _ _ _ _ _ _ _ (at-loop .loop .inv) s (at-end .end .result) (at-end .end .ensures))
+    let g = at-stands .before .loop .inv in
+    let no-link = at-stands .stands .ensures .no (when-false (at-if4 .if4 .left)) in
+    ⊎-elim
+    (λ w. rw (w .9, w .10) (taken g (w .3 .ensures) (w .6 .ensures) (w .8 .left) no-link))
+    (λ w. rw (w .1, w .2) (untaken g (c .before .stands2 .ensures .no (when-false (w .0 .left))) no-link))
+    (c .if6 .came)
+
+end-requires : tie.Need-end-requires Inv-loop μ-loop
+end-requires c κs = at-end c .inside
+
+refusal-requires-6 : tie.Need-refusal-requires-6 Inv-loop μ-loop
+refusal-requires-6 c κs = search needs
 
 returns-6 : tie.Need-returns-6 Inv-loop μ-loop
 returns-6 c =
-    let at-end = c .before in
-    let at-if4 = at-end .before in
-    let at-stands = at-if4 .before in
-    let at-loop = at-stands .before in
-    let s = ending _ _ _ _ _ _ _ (at-loop .loop .inv) (at-stands .stands .ensures .no (when-false (at-if4 .if4 .left))) in
-    done _ _ _ _ _ _ _ (at-loop .loop .inv) s _ (at-end .end .ensures) (c .if6 .left)
+    let after = c .before .before in
+    refuse _ _ _ _ (c .refusal6 .ensures) (c .before .if8 .taken)
+    (at-end (after .before) .answer (after .end .result) (after .end .ensures))
+
+returns-7 : tie.Need-returns-7 Inv-loop μ-loop
+returns-7 c =
+    let after = c .before in
+    let t = at-end (after .before) in
+    t .whole ∙ ap readingOf (sym (t .answer (after .end .result) (after .end .ensures) ∙ passes _ _ (c .if8 .left)))
 
 pub read-spec : {M : Type 1} → statement M
 read-spec =
@@ -313,7 +402,12 @@ read-spec =
     add-edges
     loop-less
     loop-again
-    end-requires
+    stands-requires-2
+    senders-requires
+    results-requires
     refusal-requires-5
     returns-5
-    returns-6)
+    end-requires
+    refusal-requires-6
+    returns-6
+    returns-7)

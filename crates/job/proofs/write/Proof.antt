@@ -15,23 +15,23 @@ use Rattle.job.specs.declared.Written.the-variants.{Length, Refused}
 use Rattle.job.specs.Job.{Job}
 use Rattle.job.specs.Read.{Answer, accepted, refused, readJob}
 use Rattle.job.specs.Record.{wirePairs}
-use Rattle.job.specs.Write.{fileOf, edgeHeld, wireHeld, heldJob, roomFor, tooMany, writeAnswer, writeOut, WrittenAs}
+use Rattle.job.specs.Write.{fileOf, edgeHeld, wireHeld, resultsHeld, heldJob, roomFor, tooMany, writeAnswer, writeOut, WrittenAs}
 use Rattle.job.specs.Pass.{Met}
 use Rattle.job.specs.Laws.Judged.{passes, stops}
 use Rattle.job.proofs.write.Statement.{statement}
 use Rattle.job.proofs.write.Tie as tie
 
--- a length that every job with this rack's wires and so many tasks and edges has
-module _ (p : Platform) (m l : ℕ) (a : Arrays) (n : ℕ)
+-- a length that every job with this rack's wires and so many tasks, edges and results has
+module _ (p : Platform) (m l k : ℕ) (a : Arrays) (n : ℕ)
     (every : (j : Job) → length (j .wires) ≡ length (wirePairs p) → length (j .tasks) ≡ m → length (j .edges) ≡ l
-    → n ≡ length (fileOf j)) where
+    → length (j .results) ≡ k → n ≡ length (fileOf j)) (many : k ≡ length (resultsHeld (a .results) m)) where
   held-size : n ≡ length (fileOf (heldJob p m l a))
   unfolding heldJob
   held-size =
       every (heldJob p m l a) (length-map (wirePairs p) (wireHeld (a .wires))) (length-values (λ t. getD (a .durations) t 0) 0 m)
-      (length-values (edgeHeld (a .from) (a .to) (a .counts)) 0 l)
+      (length-values (edgeHeld (a .from) (a .to) (a .counts)) 0 l) (sym many)
 
-  held-room : {k : ℕ} → n ≤ k → length (fileOf (heldJob p m l a)) ≤ k
+  held-room : {b : ℕ} → n ≤ b → length (fileOf (heldJob p m l a)) ≤ b
   held-room h = omega (arith, held-size)
 
 module _ (m l : ℕ) (j : Job) (out : List ℕ) where
@@ -72,47 +72,65 @@ module _ (m l : ℕ) (j : Job) (out : List ℕ) where
           let s : r ≡ length (fileOf j) = omega (arith, q .past) in
           record { answer = ap Length s ∙ sym e; output = rw e (q .stored ∙ sets-front out (fileOf j) (length (fileOf j)) refl h′) }
 
+abbrev few-of : tie.After-result-count → tie.Else2
+few-of w = w .before .before .before
+
+abbrev many-of : tie.After-job-trouble → tie.After-result-count
+many-of w = w .before .before .before .before .before .before .before .before
+
+abbrev judged-of : tie.Else4 → tie.Else3
+judged-of w = w .before .before
+
 returns : tie.Need-returns
 returns c = many-tasks _ _ _ _ (c .if1 .taken)
 
 returns-2 : tie.Need-returns-2
 returns-2 c = many-edges _ _ _ _ (c .before .if1 .left) (c .if2 .taken)
 
+result-count-requires : tie.Need-result-count-requires
+result-count-requires c κs = c .before .before .before .if1 .left
+
 job-trouble-requires : tie.Need-job-trouble-requires
-job-trouble-requires c κs = search needs
+job-trouble-requires c κs =
+    let at-many = c .before .before .before .before .before .before .before in
+    let few = few-of at-many in
+    (few .before .if1 .left, few .if2 .left, at-many .result-count .ensures .0)
 
 returns-3 : tie.Need-returns-3
 returns-3 c =
-    let at-job-trouble = c .before in
-    let at-if2 = at-job-trouble .before .before .before .before .before .before .before in
-    bad _ _ _ _ (at-if2 .before .if1 .left) (at-if2 .if2 .left) (at-job-trouble .job-trouble .result)
-    (at-job-trouble .job-trouble .ensures .0)
+    let w = c .before in
+    let few = few-of (many-of w) in
+    bad _ _ _ _ (few .before .if1 .left) (few .if2 .left) (w .job-trouble .result) (w .job-trouble .ensures .0)
     (λ z. omega (arith, c .if3 .taken))
 
 file-length-requires : tie.Need-file-length-requires
 file-length-requires c κs =
-    let at-job-trouble = c .before in
-    let at-if2 = at-job-trouble .before .before .before .before .before .before .before in
-    (at-job-trouble .job-trouble .ensures .1 (omega (arith, c .if3 .left)), at-if2 .before .if1 .left, at-if2 .if2 .left)
+    let w = c .before in
+    let few = few-of (many-of w) in (
+      w .job-trouble .ensures .1 (omega (arith, c .if3 .left)),
+      few .before .if1 .left,
+      few .if2 .left,
+      many-of w .result-count .ensures .1,
+    )
 
 returns-4 : tie.Need-returns-4
 returns-4 c =
     let at-if3 = c .before .before in
-    let at-job-trouble = at-if3 .before in
-    let at-if2 = at-job-trouble .before .before .before .before .before .before .before in
-    no-room _ _ _ _ (at-if2 .before .if1 .left) (at-if2 .if2 .left) (at-job-trouble .job-trouble .result)
-    (at-job-trouble .job-trouble .ensures .0)
+    let w = at-if3 .before in
+    let few = few-of (many-of w) in
+    no-room _ _ _ _ (few .before .if1 .left) (few .if2 .left) (w .job-trouble .result) (w .job-trouble .ensures .0)
     (omega (arith, at-if3 .if3 .left)) _
-    (held-size _ _ _ _ _ (c .before .file-length .ensures)) (c .if4 .taken)
+    (held-size _ _ _ _ _ _ (c .before .file-length .ensures) (many-of w .result-count .ensures .0)) (c .if4 .taken)
 
 put-job-requires : tie.Need-put-job-requires
 put-job-requires c κs =
-    let at-if4 = c .before .before .before .before .before .before .before in
-    let at-if3 = at-if4 .before .before in
-    let at-job-trouble = at-if3 .before in
-    let at-if2 = at-job-trouble .before .before .before .before .before .before .before in (
-      (at-job-trouble .job-trouble .ensures .1 (omega (arith, at-if3 .if3 .left)), at-if2 .before .if1 .left, at-if2 .if2 .left),
-      held-room _ _ _ _ _ (at-if4 .before .file-length .ensures) (at-if4 .if4 .left),
+    let at-if4 = c .before .before .before .before .before .before .before .before in
+    let at-if3 = judged-of at-if4 in
+    let w = at-if3 .before in
+    let few = few-of (many-of w) in
+    let many = many-of w .result-count .ensures .0 in (
+      (w .job-trouble .ensures .1 (omega (arith, at-if3 .if3 .left)), few .before .if1 .left, few .if2 .left, many),
+      held-room _ _ _ _ _ _ (at-if4 .before .file-length .ensures) many (at-if4 .if4 .left),
     )
 
 same-length : tie.Need-same-length
@@ -121,14 +139,14 @@ same-length c = search needs
 returns-5 : tie.Need-returns-5
 returns-5 c =
     let at-put-job = c .before .before in
-    let at-if4 = at-put-job .before .before .before .before .before .before .before .before in
-    let at-if3 = at-if4 .before .before in
-    let at-job-trouble = at-if3 .before in
-    let at-if2 = at-job-trouble .before .before .before .before .before .before .before in
-    wrote _ _ _ _ (at-if2 .before .if1 .left) (at-if2 .if2 .left) (at-job-trouble .job-trouble .result)
-    (at-job-trouble .job-trouble .ensures .0)
+    let at-if4 = at-put-job .before .before .before .before .before .before .before .before .before in
+    let at-if3 = judged-of at-if4 in
+    let w = at-if3 .before in
+    let few = few-of (many-of w) in
+    wrote _ _ _ _ (few .before .if1 .left) (few .if2 .left) (w .job-trouble .result) (w .job-trouble .ensures .0)
     (omega (arith, at-if3 .if3 .left)) _
-    (held-size _ _ _ _ _ (at-if4 .before .file-length .ensures)) (at-if4 .if4 .left) _ _ (at-put-job .put-job .ensures)
+    (held-size _ _ _ _ _ _ (at-if4 .before .file-length .ensures) (many-of w .result-count .ensures .0)) (at-if4 .if4 .left) _ _
+    (at-put-job .put-job .ensures)
 
 pub write-spec : {M : Type 1} → statement M
 write-spec =
@@ -136,6 +154,7 @@ write-spec =
     (tie.spec
     returns
     returns-2
+    result-count-requires
     job-trouble-requires
     returns-3
     file-length-requires

@@ -10,10 +10,10 @@ use lib.Dec.{T as Holds}
 use lib.ListN.{length, drop, length-append, length-map}
 use lib.Seq.{drop-at, drop-drop}
 use Rattle.base.specs.Choice.{pick}
-use Rattle.base.specs.Laws.Tests.{first, parts, both, fails, not-not, eq→eqb, ne→neqb, lt→nleb}
+use Rattle.base.specs.Laws.Tests.{parts, both, not-both, fails, not-not, eq→eqb, ne→neqb, lt→nleb}
 use Rattle.job.specs.declared.Platform.{Platform}
-use Rattle.job.specs.Job.{Edge, Wire, ends, Job, blank, withRack, withWires, withTasks, withEdges}
-use Rattle.job.specs.Record.{Kind, rack, step, link, end, wire, empty, noRack, stands, full, platformInRange}
+use Rattle.job.specs.Job.{Edge, Wire, Result, ends, Job, blank, withRack, withWires, withTasks, withEdges, withResults}
+use Rattle.job.specs.Record.{Kind, rack, step, link, end, wire, result, empty, noRack, stands, full, platformInRange}
 use Rattle.job.specs.Record.{wirePairs, pairsDue, isDue, tooEarly}
 use Rattle.job.specs.Pass.{key, StepDue, LinkDue, platformTrouble}
 use Rattle.job.specs.Laws.Lists.{empty-nil, empty-is, empty-not}
@@ -30,6 +30,9 @@ edges-then j a b = rw (append-assoc (j .edges) a b)
 pub wires-then : (j : Job) (a b : List Wire) → withWires (withWires j a) b ≡ withWires j (a ++ b)
 wires-then j a b = rw (append-assoc (j .wires) a b)
 
+pub results-then : (j : Job) (a b : List Result) → withResults (withResults j a) b ≡ withResults j (a ++ b)
+results-then j a b = rw (append-assoc (j .results) a b)
+
 pub no-wires : (j : Job) → withWires j [] ≡ j
 no-wires j = rw (append-nil (j .wires))
 
@@ -38,6 +41,9 @@ no-tasks j = rw (append-nil (j .tasks))
 
 pub no-edges : (j : Job) → withEdges j [] ≡ j
 no-edges j = rw (append-nil (j .edges))
+
+pub nothing-delivered : (j : Job) → withResults j [] ≡ j
+nothing-delivered j = rw (append-nil (j .results))
 
 -- a rack without trouble is in its ranges, and has a processor
 pub in-ranges : (p : Platform) → platformTrouble p ≡ 0 → Holds (platformInRange p)
@@ -94,7 +100,8 @@ all-due p = refl
 pub first-step : (p : Platform) (ws : List Wire) → 1 ≤ p .processors → StepDue (withWires (withRack blank p) ws) 0
 unfolding stands noRack blank
 first-step p ws h = record {
-  placed = both (not (eqb (p .processors) 0)) true (ne→neqb (p .processors) 0 (λ e. omega arith)) tt;
+  placed = both (not (eqb (p .processors) 0) && true) true
+      (both (not (eqb (p .processors) 0)) true (ne→neqb (p .processors) 0 (λ e. omega arith)) tt) tt;
   tasks-are = refl;
 }
 
@@ -102,6 +109,19 @@ first-step p ws h = record {
 pub next-step : {j : Job} {m : ℕ} → StepDue j m → (ts : List ℕ) (k : ℕ) → m + length ts ≡ k → StepDue (withTasks j ts) k
 unfolding stands noRack
 next-step {j} {m} s ts k e = record { placed = s .placed; tasks-are = length-append (j .tasks) ts ∙ omega (arith, s .tasks-are) }
+
+-- where a step may stand there is a rack, no edge and no result
+pub step-placed : (j : Job) → Holds (stands j step) → Holds (not (noRack j)) × (j .edges ≡ []) × (j .results ≡ [])
+unfolding stands
+step-placed j s =
+    let a = parts (not (noRack j) && empty (j .edges)) (empty (j .results)) s in
+    let b = parts (not (noRack j)) (empty (j .edges)) (a .0) in
+    (b .0, empty-nil (j .edges) (b .1), empty-nil (j .results) (a .1))
+
+-- where a link may stand there is a task and no result
+pub link-placed : (j : Job) → Holds (stands j link) → Holds (not (empty (j .tasks))) × (j .results ≡ [])
+unfolding stands
+link-placed j s = let a = parts (not (empty (j .tasks))) (empty (j .results)) s in (a .0, empty-nil (j .results) (a .1))
 
 -- where a wire may stand there is a rack of topology 3 and no task
 pub wire-placed : (j : Job) → Holds (stands j wire) → Holds (not (noRack j)) × (j .platform .topology ≡ 3) × (j .tasks ≡ [])
@@ -114,17 +134,18 @@ wire-placed j s =
 -- before the first step nothing but a step may stand, and a wire under topology 3
 pub bare : (j : Job) → StepDue j 0 → (k : Kind) → (k ≡ wire → j .platform .topology ≡ 3 → ⊥) → (k ≡ step) ⊎ Holds (not (stands j k))
 unfolding stands noRack
-bare j s rack h = inr (first (not (noRack j)) (empty (j .edges)) (s .placed))
+bare j s rack h = inr (step-placed j (s .placed) .0)
 bare j s step h = inl refl
-bare j s link h = inr (not-not (empty (j .tasks)) (empty-is (j .tasks) (s .tasks-are)))
+bare j s link h = inr (fails (stands j link) (λ t. not-both (empty (j .tasks)) (link-placed j t .0) (empty-is (j .tasks) (s .tasks-are))))
 bare j s end h = inr (not-not (empty (j .tasks)) (empty-is (j .tasks) (s .tasks-are)))
+bare j s result h = inr (not-not (empty (j .tasks)) (empty-is (j .tasks) (s .tasks-are)))
 bare j s wire h = inr (fails (stands j wire) (λ t. h refl (wire-placed j t .1)))
 
 -- after steps a link may follow, ..
-pub first-link : (j : Job) (m : ℕ) → 1 ≤ m → length (j .tasks) ≡ m → j .edges ≡ [] → LinkDue j m 0 0
+pub first-link : (j : Job) (m : ℕ) → 1 ≤ m → length (j .tasks) ≡ m → j .edges ≡ [] → j .results ≡ [] → LinkDue j m 0 0
 unfolding stands
-first-link j m h e n = record {
-  placed = empty-not (j .tasks) (λ z. omega arith);
+first-link j m h e n r = record {
+  placed = rw r (both (not (empty (j .tasks))) true (empty-not (j .tasks) (λ z. omega arith)) tt);
   tasks-are = e;
   edges-are = rw n;
   above = rw n above-none;

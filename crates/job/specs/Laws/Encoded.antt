@@ -1,27 +1,33 @@
 -- How the reader meets written records, after any job so far: a record's bytes give its values back, so a run of records comes to its
 -- first trouble or to the job with all of them.
+use mathlib.Core.Bool.{Bool, true, false, not, _&&_}
 use mathlib.Core.Path.{_≡_, refl, ap, _∙_, sym}
 use mathlib.Core.List.{List, [], _∷_, _++_, append-assoc, map, flatMap}
 use Prim.Native.Nat.{ℕ, zero, suc, _+_, _^_, _<_, _≤_}
 use native.Mathlib.Omega.{arith}
-use borrow.Author.Tests.{eq-eqb}
+use borrow.Author.Tests.{eq-eqb, lt-ltb}
+use lib.Dec.{le→leb}
 use lib.Dec.{T as Holds}
 use lib.ListN.{length, getD, take, length-append}
 use lib.Seq.{take-at, drop-at}
+use Rattle.base.specs.Choice.{pick}
+use Rattle.base.specs.Lists.{_∈_, here, there}
 use Rattle.base.specs.Number.{number, bytes}
 use Rattle.base.specs.Laws.Tests.{is-true}
 use Rattle.base.specs.Laws.Number.{length-bytes, number-bytes}
 use Rattle.job.specs.declared.Platform.{Platform}
-use Rattle.job.specs.Job.{Edge, Wire, ends, Job, blank, withRack, withWires, withTasks, withEdges}
-use Rattle.job.specs.Record.{rack, step, link, end, wire, kindOf, bodyLength, noRack, stands, full, inRange, misfit, added}
-use Rattle.job.specs.Record.{platformIn, durationIn, edgeIn, wireIn, pairsDue, isDue, tooEarly}
+use Rattle.job.specs.Job.{Edge, Wire, Result, RiseByTask, ends, Job, blank, withRack, withWires, withTasks, withEdges, withResults}
+use Rattle.job.specs.Record.{rack, step, link, end, wire, result, kindOf, bodyLength, noRack, stands, full, inRange, misfit, added}
+use Rattle.job.specs.Record.{platformIn, durationIn, edgeIn, wireIn, resultIn, pairsDue, isDue, tooEarly, hasSuccessor, pastResults}
+use Rattle.job.specs.Record.{mayDeliver}
 use Rattle.job.specs.Read.{Answer, accepted, refusedOr, after, judged, records}
-use Rattle.job.specs.Write.{rackBytes, wireBytes, stepBytes, linkBytes}
+use Rattle.job.specs.Write.{rackBytes, wireBytes, stepBytes, linkBytes, resultBytes}
 use Rattle.job.specs.Pass.{key, edge, firstOf, platformTrouble, costTrouble, stepTrouble, linkTrouble, wiresTrouble, stepsTrouble}
-use Rattle.job.specs.Pass.{linksTrouble, StepDue, LinkDue}
+use Rattle.job.specs.Pass.{linksTrouble, deliveryTrouble, resultsTrouble, StepDue, LinkDue}
 use Rattle.job.specs.Laws.Judged.{whole-at}
 use Rattle.job.specs.Laws.Due.{wires-then, tasks-then, edges-then, no-wires, no-tasks, no-edges, due-then, next-step, next-link}
-use Rattle.job.specs.Laws.Due.{steps-room, links-room}
+use Rattle.job.specs.Laws.Due.{results-then, nothing-delivered, steps-room, links-room}
+use Rattle.job.specs.Laws.Results.{past-more}
 
 -- the first of two troubles is met first
 pub first-met : (a b : ℕ) (x : Answer) → refusedOr (firstOf a b) x ≡ refusedOr a (refusedOr b x)
@@ -104,6 +110,50 @@ read-links j m l least (e ∷ es) tail s h few =
     (read-link j m l least e (flatMap linkBytes es ++ tail) s (omega arith) (h 0 .0) (h 0 .1)
     ∙ rw (rec, edges-then j (e ∷ []) es)
     (sym (first-met (linkTrouble m least e) (linksTrouble m (key e + 1) es) (records tail 0 (withEdges j (e ∷ es))))))
+
+-- where a task is below m and above that of the last result, it may deliver one unless it has a successor
+unless : (sent : Bool) → _≡_ {A = ℕ} (pick (not (not sent && true)) 15 0) (pick sent 15 0)
+unless true = refl
+unless false = refl
+
+-- one result, of a task below m that stands above that of the last one
+read-result : (j : Job) (r : Result) (tail : List ℕ) → Holds (stands j result) → r .task < length (j .tasks)
+    → Holds (pastResults (j .results) (r .task)) → r .count < 2 ^ 16 →
+    records (resultBytes r ++ tail) 0 j
+    ≡ refusedOr (deliveryTrouble (hasSuccessor (j .edges) (r .task)) (r .count)) (records tail 0 (withResults j (r ∷ [])))
+unfolding resultBytes kindOf bodyLength full inRange misfit added resultIn mayDeliver deliveryTrouble
+read-result j r tail s low past c =
+    let k : length (bytes 2 (r .count)) ≡ 2 = length-bytes 2 (r .count) in
+    rw (
+      number-read 2 (r .count) tail c,
+      drop-at (bytes 2 (r .count)) tail 2 k,
+      lt-ltb (r .task) (length (j .tasks)) low,
+      is-true (pastResults (j .results) (r .task)) past,
+      unless (hasSuccessor (j .edges) (r .task)),
+    ) at
+    (whole-at (resultBytes r ++ tail) 0 j result (omega arith) refl s tt (omega arith)
+    (rw (length-append (bytes 2 (r .count)) tail) (omega arith)))
+
+pub read-results : (j : Job) (rs : List Result) (tail : List ℕ) → Holds (stands j result) → RiseByTask rs
+    → ((r : Result) → r ∈ rs → (r .task < length (j .tasks)) × Holds (pastResults (j .results) (r .task)) × (r .count < 2 ^ 16)) →
+    records (flatMap resultBytes rs ++ tail) 0 j
+    ≡ refusedOr (resultsTrouble (hasSuccessor (j .edges)) rs) (records tail 0 (withResults j rs))
+unfolding flatMap resultsTrouble stands
+read-results j [] tail s up h = ap (records tail 0) (sym (nothing-delivered j))
+read-results j (r ∷ rs) tail s up h =
+    let sent = hasSuccessor (j .edges) in
+    let i : Job = withResults j (r ∷ []) in
+    let f = h r (here refl) in
+    let rec : records (flatMap resultBytes rs ++ tail) 0 i ≡ refusedOr (resultsTrouble sent rs) (records tail 0 (withResults i rs)) =
+    read-results i rs tail s (up .1) (λ x k. (
+      h x (there k) .0,
+      rw (past-more (j .results) r (x .task)) (le→leb (r .task + 1) (x .task) (omega (arith, up .0 x k))),
+      h x (there k) .2,
+    )) in
+    rw (append-assoc (resultBytes r) (flatMap resultBytes rs) tail)
+    (read-result j r (flatMap resultBytes rs ++ tail) s (f .0) (f .1) (f .2)
+    ∙ rw (rec, results-then j (r ∷ []) rs)
+    (sym (first-met (deliveryTrouble (sent (r .task)) (r .count)) (resultsTrouble sent rs) (records tail 0 (withResults j (r ∷ rs))))))
 
 pub read-end : (j : Job) → Holds (stands j end) → records (4 ∷ []) 0 j ≡ accepted j
 unfolding records kindOf judged full bodyLength inRange misfit after

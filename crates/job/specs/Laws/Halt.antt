@@ -23,6 +23,7 @@ use Rattle.job.specs.Read.{Answer, accepted, refused, records, readJob}
 use Rattle.job.specs.Write.{roomFor, tooMany}
 use Rattle.job.specs.Cause.{Cause, ReaderNumber, Untroubled, Reached, start, next}
 use Rattle.job.specs.Cause.{cut, unknown, misplaced, out-of-range, too-many, bad-ends, not-above, bytes-after, not-due, too-early}
+use Rattle.job.specs.Cause.{not-deliverable}
 use Rattle.job.specs.Laws.Judged.{skip, trouble, passes, whole, passed}
 use Rattle.job.specs.Laws.Turn.{Reads, no-more, halted, past, closed, reads}
 use Rattle.job.specs.Laws.Lists.{at-place}
@@ -69,10 +70,10 @@ pub reader-number : {n : ℕ} → (1 ≤ n) × (n ≤ 8) → ReaderNumber n
 unfolding ReaderNumber
 reader-number h = inl h
 
--- and so is 14
-wire-number : ReaderNumber 14
+-- and so are 14 and 15
+later-number : {n : ℕ} → (14 ≤ n) × (n ≤ 15) → ReaderNumber n
 unfolding ReaderNumber
-wire-number = inr refl
+later-number h = inr h
 
 -- the numbers of causes are the reader's
 pub cause-number : {rest : List ℕ} {j : Job} {o : Option Kind} {n : ℕ} → Cause rest j o n → ReaderNumber n
@@ -84,8 +85,9 @@ cause-number (too-many h) = reader-number (omega arith)
 cause-number (bad-ends h) = reader-number (omega arith)
 cause-number (not-above h) = reader-number (omega arith)
 cause-number (bytes-after h) = reader-number (omega arith)
-cause-number (not-due h) = wire-number
-cause-number (too-early h) = wire-number
+cause-number (not-due h) = later-number (omega arith)
+cause-number (too-early h) = later-number (omega arith)
+cause-number (not-deliverable h) = later-number (omega arith)
 
 -- counts that are too large, and counts that are not
 pub many-counts : (m l : ℕ) → Holds (tooMany m l) → (mostTasks < m) ⊎ (mostEdges < l)

@@ -12,10 +12,10 @@ use lib.Seq.{drop-cons, drop-drop}
 use Rattle.base.specs.Choice.{pick}
 use Rattle.base.specs.Laws.Tests.{is-true, is-not, when-false}
 use Rattle.job.specs.Job.{Job}
-use Rattle.job.specs.Record.{Kind, rack, step, link, end, wire, kindOf, bodyLength, empty, stands, full, inRange, edgeIn, wireIn}
-use Rattle.job.specs.Record.{joins, aboveLast, pairsDue, isDue, tooEarly, misfit, added}
+use Rattle.job.specs.Record.{Kind, rack, step, link, end, wire, result, kindOf, bodyLength, empty, stands, full, inRange, edgeIn}
+use Rattle.job.specs.Record.{wireIn, resultIn, joins, aboveLast, pairsDue, isDue, tooEarly, mayDeliver, misfit, added}
 use Rattle.job.specs.Read.{Answer, refused, refusedOr, after, judged, records}
-use Rattle.job.specs.Cause.{Cause, bad-ends, not-above, not-due, too-early}
+use Rattle.job.specs.Cause.{Cause, bad-ends, not-above, not-due, too-early, not-deliverable}
 use Rattle.job.specs.Pass.{firstOf}
 
 -- the bytes of a judged body are passed over
@@ -98,6 +98,7 @@ passed rack rest j more h = refl
 passed step rest j more h = refl
 passed link rest j more h = refl
 passed wire rest j more h = refl
+passed result rest j more h = refl
 passed end rest j more h = let n : ⊥ = omega arith in absurd n
 
 -- the record at a place of a file, where its kind may stand
@@ -133,18 +134,22 @@ pub link-fits : (j : Job) (rest : List ℕ) → misfit j link rest ≡ 0 →
 unfolding misfit
 link-fits j rest e = misfit-none (joins (length (j .tasks)) (edgeIn rest)) (aboveLast (j .edges) (edgeIn rest)) e
 
--- the misfit of a wire, or of a step that comes too early: 14 where the test fails
-one-misfit : (t : Bool) → _≡_ {A = ℕ} (pick (not t) 14 0) 0 → Holds t
-one-misfit true e = tt
-one-misfit false e = let n : ⊥ = omega arith in absurd n
+-- the misfit of a wire, of a step that comes too early or of a result: one number where the test fails
+one-misfit : (n : ℕ) (t : Bool) → _≡_ {A = ℕ} (pick (not t) (suc n) 0) 0 → Holds t
+one-misfit n true e = tt
+one-misfit n false e = let z : ⊥ = omega arith in absurd z
 
 pub wire-fits : (j : Job) (rest : List ℕ) → misfit j wire rest ≡ 0 → Holds (isDue (pairsDue j) (wireIn rest))
 unfolding misfit
-wire-fits j rest e = one-misfit (isDue (pairsDue j) (wireIn rest)) e
+wire-fits j rest e = one-misfit 13 (isDue (pairsDue j) (wireIn rest)) e
+
+pub result-fits : (j : Job) (rest : List ℕ) → misfit j result rest ≡ 0 → Holds (mayDeliver j (resultIn rest .task))
+unfolding misfit
+result-fits j rest e = one-misfit 14 (mayDeliver j (resultIn rest .task)) e
 
 pub in-time : (j : Job) → tooEarly j ≡ 0 → Holds (empty (pairsDue j))
 unfolding tooEarly
-in-time j e = one-misfit (empty (pairsDue j)) e
+in-time j e = one-misfit 13 (empty (pairsDue j)) e
 
 pub misfit-cause : (j : Job) (k : Kind) (rest : List ℕ) (n : ℕ) → misfit j k rest ≡ suc n → Cause rest j (some k) (suc n)
 unfolding misfit tooEarly
@@ -158,6 +163,11 @@ misfit-cause j wire rest n e = go (isDue (pairsDue j) (wireIn rest)) refl e
   where
     go : (t : Bool) → isDue (pairsDue j) (wireIn rest) ≡ t → pick (not t) 14 0 ≡ suc n → Cause rest j (some wire) (suc n)
     go false h q = rw (← q) (not-due (when-false h))
+    go true h q = let z : ⊥ = omega arith in absurd z
+misfit-cause j result rest n e = go (mayDeliver j (resultIn rest .task)) refl e
+  where
+    go : (t : Bool) → mayDeliver j (resultIn rest .task) ≡ t → pick (not t) 15 0 ≡ suc n → Cause rest j (some result) (suc n)
+    go false h q = rw (← q) (not-deliverable (when-false h))
     go true h q = let z : ⊥ = omega arith in absurd z
 misfit-cause j end rest n e = let z : ⊥ = omega arith in absurd z
 misfit-cause j link rest n e = go (joins (length (j .tasks)) (edgeIn rest)) (aboveLast (j .edges) (edgeIn rest)) refl refl e

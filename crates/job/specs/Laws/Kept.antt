@@ -3,29 +3,38 @@
 use mathlib.Core.Bool.{Bool, true, false, not, _&&_}
 use mathlib.Core.Path.{_≡_, refl, ap, sym, _∙_}
 use mathlib.Core.List.{List, [], _∷_, _++_, append-assoc, map, map-append}
-use Prim.Native.Nat.{ℕ, _≤_}
+use Prim.Native.Nat.{ℕ, _≤_, _<_}
 use native.Mathlib.Omega.{arith}
 use lib.Dec.{eqb, nleb→lt, eqb→eq, leb→le}
 use lib.Dec.{T as Holds}
 use lib.ListN.{length, length-append}
 use Rattle.base.specs.Choice.{pick}
-use Rattle.base.specs.Laws.Tests.{impossible, second}
-use Rattle.job.specs.Job.{Edge, Wire, ends, wireCost, Job, blank}
+use Rattle.base.specs.Lists.{_∈_}
+use Rattle.base.specs.Laws.Tests.{impossible}
+use Rattle.base.specs.Laws.Lists.{in-nothing, for-cons, for-join}
+use Rattle.job.specs.Job.{Edge, Wire, Result, RiseByTask, ends, wireCost, Job, blank}
 use Rattle.job.specs.Limits.{mostWireCost, mostTasks, mostEdges}
-use Rattle.job.specs.Record.{Kind, rack, step, link, end, wire, durationIn, edgeIn, wireIn, empty, noRack, stands, full}
-use Rattle.job.specs.Record.{platformInRange}
-use Rattle.job.specs.Record.{durationInRange, countInRange, costInRange, inRange, joins, wirePairs, pairsDue, misfit, added}
+use Rattle.job.specs.Record.{Kind, rack, step, link, end, wire, result, durationIn, edgeIn, wireIn, resultIn, empty, noRack, stands, full}
+use Rattle.job.specs.Record.{platformInRange, durationInRange, countInRange, costInRange, inRange, joins, wirePairs, pairsDue}
+use Rattle.job.specs.Record.{hasSuccessor, misfit, added}
 use Rattle.job.specs.Read.{Answer, accepted}
 use Rattle.job.specs.Cause.{Untroubled}
 use Rattle.job.specs.Laws.Turn.{Reads, no-more, halted, past, closed}
 use Rattle.job.specs.Laws.Lists.{empty-nil, some-in, Each, each-more, Rising, rising-more}
-use Rattle.job.specs.Laws.Judged.{link-fits, wire-fits, in-time}
-use Rattle.job.specs.Laws.Due.{wire-placed, due-ends, due-then}
+use Rattle.job.specs.Laws.Judged.{link-fits, wire-fits, result-fits, in-time}
+use Rattle.job.specs.Laws.Due.{step-placed, link-placed, wire-placed, due-ends, due-then}
+use Rattle.job.specs.Laws.Results.{rise-more}
+use Rattle.job.specs.Laws.Successors.{may-facts}
 use Rattle.job.specs.Laws.Tests.{platform-facts}
 
 -- what stands past the last edge
 abbrev pub noEdge : Edge
 noEdge = record { from = 0; to = 0; count = 0 }
+
+-- a result of a task below m with no successor, with a count in its range
+abbrev pub Deliverable : Job → Result → Type 0
+Deliverable j r =
+    (r .task < length (j .tasks)) × Holds (not (hasSuccessor (j .edges) (r .task))) × Holds (countInRange (r .count))
 
 -- a job after its rack: its parts have passed their tests
 pub record Kept (j : Job) : Type 0 where
@@ -39,6 +48,8 @@ pub record Kept (j : Job) : Type 0 where
   pub counts-right : Each (λ e. countInRange (e .count)) noEdge (j .edges)
   pub edges-join : Each (joins (length (j .tasks))) noEdge (j .edges)
   pub edges-rise : Rising noEdge (j .edges)
+  pub results-rise : RiseByTask (j .results)
+  pub results-right : (r : Result) → r ∈ j .results → Deliverable j r
 
 -- the job so far: no rack yet, or kept
 pub data SoFar : Job → Type 0 where
@@ -59,6 +70,8 @@ with-rack rest f = record {
   counts-right = λ i h. let n : ⊥ = omega arith in absurd n;
   edges-join = λ i h. let n : ⊥ = omega arith in absurd n;
   edges-rise = λ i h. let n : ⊥ = omega arith in absurd n;
+  results-rise = tt;
+  results-right = λ r h. absurd (in-nothing h);
 }
 
 -- the wire of the pair that is due
@@ -96,12 +109,15 @@ with-wire rest j b f =
       counts-right = b .counts-right;
       edges-join = b .edges-join;
       edges-rise = b .edges-rise;
+      results-rise = b .results-rise;
+      results-right = b .results-right;
     }
 
 with-step : (rest : List ℕ) (j : Job) → Kept j → Untroubled rest j step → Kept (added j step rest)
 unfolding added stands full inRange misfit pairsDue
 with-step rest j b f =
-    let z : length (j .edges) ≡ 0 = ap length (empty-nil (j .edges) (second (not (noRack j)) (empty (j .edges)) (f .placed))) in
+    let s = step-placed j (f .placed) in
+    let z : length (j .edges) ≡ 0 = ap length (s .1) in
     record {
       platform-right = b .platform-right;
       wires-stand = b .wires-stand;
@@ -113,6 +129,8 @@ with-step rest j b f =
       counts-right = b .counts-right;
       edges-join = λ i h. let n : ⊥ = omega arith in absurd n;
       edges-rise = b .edges-rise;
+      results-rise = b .results-rise;
+      results-right = λ r h. absurd (in-nothing (rw (s .2) at h));
     }
 
 with-link : (rest : List ℕ) (j : Job) → Kept j → Untroubled rest j link → Kept (added j link rest)
@@ -130,6 +148,28 @@ with-link rest j b f =
       counts-right = each-more (λ e. countInRange (e .count)) noEdge (j .edges) (edgeIn rest) (b .counts-right) (f .ranges);
       edges-join = each-more (joins (length (j .tasks))) noEdge (j .edges) (edgeIn rest) (b .edges-join) (g .0);
       edges-rise = rising-more noEdge (j .edges) (edgeIn rest) (b .edges-rise) (g .1);
+      results-rise = b .results-rise;
+      results-right = λ r h. absurd (in-nothing (rw (link-placed j (f .placed) .1) at h));
+    }
+
+with-result : (rest : List ℕ) (j : Job) → Kept j → Untroubled rest j result → Kept (added j result rest)
+unfolding added inRange pairsDue
+with-result rest j b f =
+    let g = may-facts j (resultIn rest .task) (result-fits j rest (f .fits)) in
+    record {
+      platform-right = b .platform-right;
+      wires-stand = b .wires-stand;
+      wires-cheap = b .wires-cheap;
+      tasks-wired = b .tasks-wired;
+      few-tasks = b .few-tasks;
+      tasks-right = b .tasks-right;
+      few-edges = b .few-edges;
+      counts-right = b .counts-right;
+      edges-join = b .edges-join;
+      edges-rise = b .edges-rise;
+      results-rise = rise-more (j .results) (resultIn rest) (b .results-rise) (g .2);
+      results-right = for-join (Deliverable j) (j .results) (resultIn rest ∷ []) (b .results-right)
+          (for-cons (Deliverable j) (g .0, g .1, f .ranges) (λ r h. absurd (in-nothing h)));
     }
 
 one-rack : (j : Job) → Kept j → Holds (stands j rack) → ⊥
@@ -145,15 +185,19 @@ grown step rest {j} (begun b) f = begun (with-step rest j b f)
 grown link rest nothing f = absurd (f .placed)
 grown link rest {j} (begun b) f = begun (with-link rest j b f)
 grown end rest s f = s
+grown result rest nothing f = absurd (f .placed)
+grown result rest {j} (begun b) f = begun (with-result rest j b f)
 grown wire rest nothing f = absurd (f .placed)
 grown wire rest {j} (begun b) f = begun (with-wire rest j b f)
 
-ready : {j : Job} → SoFar j → Holds (stands j end) → Kept j × (1 ≤ length (j .tasks))
-unfolding stands blank
+-- where the end record or a result may stand
+pub ready : {j : Job} → SoFar j → Holds (not (empty (j .tasks))) → Kept j × (1 ≤ length (j .tasks))
+unfolding blank
 ready nothing h = absurd h
 ready {j} (begun b) h = (b, some-in (j .tasks) h)
 
 pub kept : {xs : List ℕ} {j : Job} {a : Answer} → Reads xs j a → SoFar j → (i : Job) → a ≡ accepted i → Kept i × (1 ≤ length (i .tasks))
+unfolding stands
 kept no-more s i e = let z : false ≡ true = cc in impossible z
 kept (halted c) s i e = let z : false ≡ true = cc in impossible z
 kept (past {rest = rest} k t h f r) s i e = kept r (grown k rest s f) i e

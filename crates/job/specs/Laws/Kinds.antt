@@ -11,7 +11,7 @@ use lib.Dec.{T as Holds}
 use lib.ListN.{length, getD, drop}
 use Rattle.base.specs.Choice.{pick}
 use Rattle.job.specs.Job.{Job}
-use Rattle.job.specs.Record.{Kind, rack, step, link, end, wire, kindOf, stands}
+use Rattle.job.specs.Record.{Kind, rack, step, link, end, wire, result, kindOf, stands}
 use Rattle.job.specs.Read.{Answer, refused, judged, records}
 use Rattle.job.specs.Pass.{misplacedNumber}
 use Rattle.job.specs.Laws.Judged.{at-record, misplaced}
@@ -23,6 +23,7 @@ kindByte step = 2
 kindByte link = 3
 kindByte end = 4
 kindByte wire = 5
+kindByte result = 6
 
 pub data KindAt : ℕ → Option Kind → Type 0 where
   known : (k : Kind) → KindAt (kindByte k) (some k)
@@ -38,7 +39,7 @@ row b k o other = go (eqb b (kindByte k)) refl
 
 pub kind-at : (b : ℕ) → KindAt b (kindOf b)
 unfolding kindOf
-kind-at b = row b rack _ (row b step _ (row b link _ (row b end _ (row b wire _ strange))))
+kind-at b = row b rack _ (row b step _ (row b link _ (row b end _ (row b wire _ (row b result _ strange)))))
 
 pub kind-byte : (b : ℕ) (k : Kind) → kindOf b ≡ some k → b ≡ kindByte k
 kind-byte b k h = go b (kindOf b) (kind-at b) h

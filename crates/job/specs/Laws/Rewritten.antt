@@ -1,43 +1,46 @@
 -- An accepted file is the file of its job: by induction on the chain of turns, the bytes read so far are the records of the job so far,
 -- since a number's bytes are those that it was read from.
-use mathlib.Core.Bool.{true, false, not}
+use mathlib.Core.Bool.{true, false}
 use mathlib.Core.Path.{_≡_, refl, ap, _∙_, sym}
 use mathlib.Core.List.{List, [], _∷_, _++_, append-assoc, append-nil, map, flatMap}
-use Prim.Native.Nat.{ℕ, zero, suc, _≤_}
+use Prim.Native.Nat.{ℕ, zero, suc, _+_, _*_, _≤_}
 use native.Mathlib.Omega.{arith}
 use borrow.Author.Tests.{le-ltb}
-use lib.Dec.{eqb, eqb→eq}
+use lib.Dec.{eqb→eq}
 use lib.Dec.{T as Holds}
 use lib.ListN.{length, take, drop, take-append-drop, length-map}
 use lib.Seq.{length-take-le}
 use Rattle.base.specs.Number.{number, bytes, Bytes, none, more}
-use Rattle.base.specs.Laws.Tests.{impossible, second}
+use Rattle.base.specs.Laws.Tests.{impossible}
 use Rattle.base.specs.Laws.Number.{bytes-number}
 use Rattle.base.specs.Laws.Stored.{flat-append}
 use Rattle.job.specs.declared.Platform.{Platform}
 use Rattle.job.specs.declared.Written.the-variants.{Length}
-use Rattle.job.specs.Job.{Edge, Wire, ends, Job, blank, withWires, withTasks, withEdges}
-use Rattle.job.specs.Record.{Kind, rack, step, link, end, wire, bodyLength, empty, noRack, stands, inRange, added, platformIn}
-use Rattle.job.specs.Record.{durationIn, edgeIn, wireIn, wirePairs}
+use Rattle.job.specs.Job.{Edge, Wire, Result, ends, Job, blank, withWires, withTasks, withEdges, withResults}
+use Rattle.job.specs.Record.{Kind, rack, step, link, end, wire, result, bodyLength, noRack, stands, inRange, added, platformIn}
+use Rattle.job.specs.Record.{durationIn, edgeIn, wireIn, resultIn, wirePairs}
 use Rattle.job.specs.Read.{Answer, accepted, readJob}
-use Rattle.job.specs.Write.{rackBytes, wireBytes, stepBytes, linkBytes, fileOf, greatestLength, roomFor, tooMany}
+use Rattle.job.specs.Write.{rackBytes, wireBytes, stepBytes, linkBytes, resultBytes, fileOf, greatestLength, roomFor, tooMany}
 use Rattle.job.specs.Write.{writeAnswer, writeOut}
 use Rattle.job.specs.Cause.{Untroubled}
 use Rattle.job.specs.Laws.Tests.{platform-facts}
 use Rattle.job.specs.Laws.Written.{file-size}
-use Rattle.job.specs.Laws.Lists.{empty-nil, some-in}
-use Rattle.job.specs.Laws.Due.{wire-placed}
+use Rattle.job.specs.Laws.Lists.{some-in}
+use Rattle.job.specs.Laws.Due.{step-placed, link-placed, wire-placed}
 use Rattle.job.specs.Laws.Wires.{few-pairs}
 use Rattle.job.specs.Laws.Kinds.{kindByte, kind-byte}
 use Rattle.job.specs.Laws.Turn.{Reads, no-more, halted, past, closed, reads}
 
 -- the job so far, and the bytes that it was read from
 abbrev bytesOf : Job → List ℕ
-bytesOf j = rackBytes (j .platform) ++ (flatMap wireBytes (j .wires) ++ (flatMap stepBytes (j .tasks) ++ flatMap linkBytes (j .edges)))
+bytesOf j =
+    rackBytes (j .platform)
+    ++ (flatMap wireBytes (j .wires) ++ (flatMap stepBytes (j .tasks) ++ (flatMap linkBytes (j .edges) ++ flatMap resultBytes (j .results))))
 
 data ReadFrom : Job → List ℕ → Type 0 where
   start : ReadFrom blank []
-  under-way : {j : Job} {bs : List ℕ} → 1 ≤ j .platform .processors → (j .tasks ≡ [] → j .edges ≡ []) → bs ≡ bytesOf j → ReadFrom j bs
+  under-way : {j : Job} {bs : List ℕ} → 1 ≤ j .platform .processors → (j .tasks ≡ [] → (j .edges ≡ []) × (j .results ≡ []))
+      → bs ≡ bytesOf j → ReadFrom j bs
 
 bytes-take : (n : ℕ) (bs : List ℕ) → Bytes bs → Bytes (take n bs)
 bytes-take zero bs h = none
@@ -78,6 +81,11 @@ link-bytes [] b h = absurd (omega arith)
 link-bytes (x ∷ []) b h = absurd (omega arith)
 link-bytes (x ∷ y ∷ rest) (more bx (more by b)) h = rw (bytes-back 2 rest b (omega arith))
 
+result-bytes : (rest : List ℕ) → Bytes rest → 3 ≤ length rest → resultBytes (resultIn rest) ≡ 6 ∷ take 3 rest
+unfolding resultBytes resultIn
+result-bytes [] b h = absurd (omega arith)
+result-bytes (x ∷ rest) (more bx b) h = rw (bytes-back 2 rest b (omega arith))
+
 flatMap-more : {A : Type 0} (f : A → List ℕ) (xs : List A) (x : A) → flatMap f (xs ++ (x ∷ [])) ≡ flatMap f xs ++ f x
 unfolding flatMap
 flatMap-more f xs x = flat-append f xs (x ∷ []) ∙ ap (λ (bs : List ℕ). flatMap f xs ++ bs) (append-nil (f x))
@@ -88,7 +96,7 @@ grown : (k : Kind) (rest : List ℕ) (j : Job) (bs : List ℕ) → 1 ≤ bodyLen
 unfolding bodyLength added stands noRack inRange blank flatMap
 grown rack rest j bs h b f start =
     let p : Platform = platformIn rest in
-    under-way (platform-facts p (f .ranges) .0) (λ t. refl) (sym (rack-bytes rest (f .whole)) ∙ sym (append-nil (rackBytes p)))
+    under-way (platform-facts p (f .ranges) .0) (λ t. (refl, refl)) (sym (rack-bytes rest (f .whole)) ∙ sym (append-nil (rackBytes p)))
 grown rack rest j bs h b f (under-way n u e) =
     let z : j .platform .processors ≡ 0 = eqb→eq (j .platform .processors) 0 (f .placed) in absurd (omega arith)
 grown step rest j bs h b f start = absurd (f .placed)
@@ -97,12 +105,14 @@ grown wire rest j bs h b f (under-way n u e) =
     let w : Wire = wireIn rest in
     let wires : List ℕ = flatMap wireBytes (j .wires) in
     let none : j .tasks ≡ [] = wire-placed j (f .placed) .2 in
-    let none′ : j .edges ≡ [] = u none in
+    let none′ : j .edges ≡ [] = u none .0 in
+    let none″ : j .results ≡ [] = u none .1 in
     let q : bs ++ (5 ∷ take 3 rest) ≡ bytesOf (withWires j (w ∷ [])) =
     rw (
       e,
       none,
       none′,
+      none″,
       ← wire-bytes rest (f .whole),
       append-nil wires,
       flatMap-more wireBytes (j .wires) w,
@@ -113,20 +123,39 @@ grown wire rest j bs h b f (under-way n u e) =
 grown step rest j bs h b f (under-way n u e) =
     let d : ℕ = durationIn rest in
     let steps : List ℕ = flatMap stepBytes (j .tasks) in
-    let none : j .edges ≡ [] = empty-nil (j .edges) (second (not (eqb (j .platform .processors) 0)) (empty (j .edges)) (f .placed)) in
+    let none : j .edges ≡ [] = step-placed j (f .placed) .1 in
+    let none′ : j .results ≡ [] = step-placed j (f .placed) .2 in
     let q : bs ++ (2 ∷ take 4 rest) ≡ bytesOf (withTasks j (d ∷ [])) =
-    rw (e, none, ← step-bytes rest b (f .whole), append-nil steps, flatMap-more stepBytes (j .tasks) d, append-nil (steps ++ stepBytes d))
+    rw (e, none, none′, ← step-bytes rest b (f .whole), append-nil steps, flatMap-more stepBytes (j .tasks) d, append-nil (steps ++ stepBytes d))
     (simp append-assoc) in
-    under-way n (λ t. none) q
+    under-way n (λ t. (none, none′)) q
 grown link rest j bs h b f start = absurd (f .placed)
 grown link rest j bs h b f (under-way n u e) =
     let x : Edge = edgeIn rest in
     let steps : List ℕ = flatMap stepBytes (j .tasks) in
     let links : List ℕ = flatMap linkBytes (j .edges) in
+    let none : j .results ≡ [] = link-placed j (f .placed) .1 in
     let q : bs ++ (3 ∷ take 4 rest) ≡ bytesOf (withEdges j (x ∷ [])) =
-    rw (e, ← link-bytes rest b (f .whole), flatMap-more linkBytes (j .edges) x)
+    rw (
+      e,
+      none,
+      ← link-bytes rest b (f .whole),
+      append-nil links,
+      flatMap-more linkBytes (j .edges) x,
+      append-nil (links ++ linkBytes x),
+    )
     (simp append-assoc) in
-    let tasked : j .tasks ≡ [] → j .edges ++ (x ∷ []) ≡ [] = λ t. absurd (omega (arith, ap length t, some-in (j .tasks) (f .placed))) in
+    let tasked : j .tasks ≡ [] → (j .edges ++ (x ∷ []) ≡ []) × (j .results ≡ []) =
+    λ t. absurd (omega (arith, ap length t, some-in (j .tasks) (link-placed j (f .placed) .0))) in
+    under-way n tasked q
+grown result rest j bs h b f start = absurd (f .placed)
+grown result rest j bs h b f (under-way n u e) =
+    let x : Result = resultIn rest in
+    let q : bs ++ (6 ∷ take 3 rest) ≡ bytesOf (withResults j (x ∷ [])) =
+    rw (e, ← result-bytes rest b (f .whole), flatMap-more resultBytes (j .results) x)
+    (simp append-assoc) in
+    let tasked : j .tasks ≡ [] → (j .edges ≡ []) × (j .results ++ (x ∷ []) ≡ []) =
+    λ t. absurd (omega (arith, ap length t, some-in (j .tasks) (f .placed))) in
     under-way n tasked q
 grown end rest j bs h b f r = absurd (omega arith)
 
@@ -167,7 +196,8 @@ written-back file j out b e h ht he =
 
 -- .. and has no more bytes than the greatest one
 pub file-bound : (file : List ℕ) (j : Job) → Bytes file → readJob file ≡ accepted j → length (j .tasks) ≤ 256 → length (j .edges) ≤ 1024 →
-    j .platform .processors ≤ 16 → map ends (j .wires) ≡ wirePairs (j .platform) → length file ≤ greatestLength
-file-bound file j b e ht he few stand =
+    j .platform .processors ≤ 16 → map ends (j .wires) ≡ wirePairs (j .platform)
+    → length (j .edges) + 255 * length (j .results) ≤ 255 * length (j .tasks) → length file ≤ greatestLength
+file-bound file j b e ht he few stand delivered =
     let wires : length (j .wires) ≤ 240 = rw (← length-map (j .wires) ends, stand) (few-pairs (j .platform) few) in
     omega (arith, file-size j, ap length (same-file file j b e))

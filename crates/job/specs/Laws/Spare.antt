@@ -11,8 +11,8 @@ use Rattle.job.specs.declared.Arrays.{Arrays}
 use Rattle.job.specs.declared.Platform.{Platform}
 use Rattle.job.specs.Job.{Edge}
 use Rattle.job.specs.Record.{wirePairs}
-use Rattle.job.specs.Read.{padded, wireArray, arraysOf}
-use Rattle.job.specs.Write.{edgeHeld, wireHeld, heldJob}
+use Rattle.job.specs.Read.{padded, wireArray, resultArray, arraysOf}
+use Rattle.job.specs.Write.{edgeHeld, wireHeld, resultsHeld, heldJob}
 use Rattle.job.specs.Pass.{Front}
 
 pub front-none : (n : ℕ) (xs : List ℕ) → xs ≡ replicate n 0 → Front n 0 xs
@@ -47,13 +47,14 @@ row-set xs k x h =
     let g = values-same (λ i. getD (set xs k x) i 0) (λ i. getD xs i 0) 0 k (λ i a b. getD-set-other xs k i x 0 (λ e. omega arith)) in
     values-more (λ i. getD (set xs k x) i 0) k ∙ rw (g, getD-set-same xs k x 0 h)
 
--- arrays that are filled from the front, with m durations and l edges, and the wires of a rack
+-- arrays that are filled from the front, with m durations and l edges, the wires of a rack and the results of m tasks
 pub record Filled (p : Platform) (m l : ℕ) (a : Arrays) : Type 0 where
   pub durations : Front 256 m (a .durations)
   pub from : Front 1024 l (a .from)
   pub to : Front 1024 l (a .to)
   pub counts : Front 1024 l (a .counts)
   pub wires : wireArray (map (wireHeld (a .wires)) (wirePairs p)) ≡ a .wires
+  pub results : resultArray (resultsHeld (a .results) m) ≡ a .results
 
 -- they are the arrays of the job that they hold
 pub arrays-back : (p : Platform) {m l : ℕ} {a : Arrays} → Filled p m l a → m ≤ 256 → l ≤ 1024 → arraysOf (heldJob p m l a) ≡ a
@@ -65,4 +66,5 @@ arrays-back p {m} {l} {a} f few few′ =
       is-column (f .to) few′ (λ (e : Edge). e .to) (edgeHeld (a .from) (a .to) (a .counts)) (λ i. refl),
       is-column (f .counts) few′ (λ (e : Edge). e .count) (edgeHeld (a .from) (a .to) (a .counts)) (λ i. refl),
       f .wires,
+      f .results,
     )

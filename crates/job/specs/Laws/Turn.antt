@@ -12,7 +12,7 @@ use lib.ListN.{length, drop}
 use Rattle.base.specs.Choice.{pick}
 use Rattle.base.specs.Laws.Tests.{when-true, when-false}
 use Rattle.job.specs.Job.{Job}
-use Rattle.job.specs.Record.{Kind, rack, step, link, end, wire, kindOf, bodyLength, stands, full, inRange, misfit, added}
+use Rattle.job.specs.Record.{Kind, rack, step, link, end, wire, result, kindOf, bodyLength, stands, full, inRange, misfit, added}
 use Rattle.job.specs.Read.{Answer, accepted, refused, refusedOr, after, judged, records}
 use Rattle.job.specs.Cause.{Cause, Untroubled, cut, unknown, misplaced, out-of-range, too-many, bytes-after}
 use Rattle.job.specs.Laws.Judged.{misfit-cause}
@@ -30,6 +30,7 @@ fitted rack rest j more f = goes-on rack (omega arith) f
 fitted step rest j more f = goes-on step (omega arith) f
 fitted link rest j more f = goes-on link (omega arith) f
 fitted wire rest j more f = goes-on wire (omega arith) f
+fitted result rest j more f = goes-on result (omega arith) f
 fitted end [] j more f = is-end f refl
 fitted end (b ∷ rest) j more f = halts (bytes-after tt)
 

@@ -15,17 +15,19 @@ use Rattle.base.specs.Laws.Stored.{flat-size}
 use Rattle.job.specs.declared.Written.the-variants.{Length, Refused}
 use Rattle.job.specs.Job.{Job}
 use Rattle.job.specs.Read.{Answer, accepted, refused, readJob}
-use Rattle.job.specs.Write.{rackBytes, wireBytes, stepBytes, linkBytes, fileOf, roomFor, tooMany, writeAnswer, writeOut}
+use Rattle.job.specs.Write.{rackBytes, wireBytes, stepBytes, linkBytes, resultBytes, fileOf, roomFor, tooMany, writeAnswer, writeOut}
 use Rattle.job.specs.Pass.{jobTrouble}
 use Rattle.job.specs.Laws.Met.{Writable, met, met-accepted}
-use Rattle.job.specs.Laws.Sizes.{wire-size, step-size, link-size}
+use Rattle.job.specs.Laws.Sizes.{wire-size, step-size, link-size, result-size}
 
-pub file-size : (j : Job) → length (fileOf j) ≡ 5 + 5 * (length (j .tasks) + length (j .edges)) + 4 * length (j .wires)
+pub file-size : (j : Job)
+    → length (fileOf j) ≡ 5 + 5 * (length (j .tasks) + length (j .edges)) + 4 * (length (j .wires) + length (j .results))
 unfolding fileOf rackBytes stepBytes linkBytes
 file-size j =
     let w : length (flatMap wireBytes (j .wires)) ≡ 4 * length (j .wires) = flat-size wireBytes 4 wire-size (j .wires) in
     let s : length (flatMap stepBytes (j .tasks)) ≡ 5 * length (j .tasks) = flat-size stepBytes 5 step-size (j .tasks) in
     let l : length (flatMap linkBytes (j .edges)) ≡ 5 * length (j .edges) = flat-size linkBytes 5 link-size (j .edges) in
+    let r : length (flatMap resultBytes (j .results)) ≡ 4 * length (j .results) = flat-size resultBytes 4 result-size (j .results) in
     simp length-append (omega arith)
 
 -- what holds where the writer takes a job

@@ -10,7 +10,8 @@ use Rattle.base.specs.Laws.Put.{put-none, put-then, put-byte}
 use Rattle.job.specs.declared.Arrays.{Arrays}
 use Rattle.job.specs.declared.Platform.{Platform}
 use Rattle.job.specs.Record.{wirePairs}
-use Rattle.job.specs.Write.{rackBytes, wireBytes, stepBytes, linkBytes, fileOf, edgeHeld, wireHeld, heldJob, gathered}
+use Rattle.job.specs.Write.{rackBytes, wireBytes, stepBytes, linkBytes, resultBytes, fileOf}
+use Rattle.job.specs.Write.{edgeHeld, wireHeld, resultsHeld, heldJob, gathered}
 use Rattle.job.proofs.emit.put_job.Statement.{statement}
 use Rattle.job.proofs.emit.put_job.Tie as tie
 
@@ -65,6 +66,7 @@ module _ (p : Platform) (m l : ℕ) (a : Arrays) where
       ∷ flatMap wireBytes (map (wireHeld (a .wires)) (wirePairs p))
       ∷ flatMap stepBytes (values (λ t. getD (a .durations) t 0) 0 m)
       ∷ flatMap linkBytes (values (edgeHeld (a .from) (a .to) (a .counts)) 0 l)
+      ∷ flatMap resultBytes (resultsHeld (a .results) m)
       ∷ []
 
   begin : (out : List ℕ) → length (fileOf (heldJob p m l a)) ≤ length out → Going (fileOf (heldJob p m l a)) out out 0 partsOf
@@ -75,7 +77,7 @@ module _ (p : Platform) (m l : ℕ) (a : Arrays) where
 abbrev Left : tie.Start → ℕ → List ℕ → ℕ → Type 0
 Left s k out at =
     let x = s .args in
-    let a = gathered (x .durations .now) (x .from .now) (x .to .now) (x .counts .now) (x .costs .now) in
+    let a = gathered (x .durations .now) (x .from .now) (x .to .now) (x .counts .now) (x .costs .now) (x .results .now) in
     let file = fileOf (heldJob (x .platform) (x .tasks) (x .edges) a) in
     Going file (x .out .now) out at (drop k (partsOf (x .platform) (x .tasks) (x .edges) a))
 
@@ -90,6 +92,9 @@ wires-of w = w .before .before .before .before
 
 abbrev steps-of : tie.After-put-links → tie.After-put-steps
 steps-of w = w .before .before .before .before
+
+abbrev links-of : tie.After-put-results → tie.After-put-links
+links-of w = w .before .before .before .before
 
 at-first : (s : tie.Start) → Left s 0 (s .args .out .now) 0
 at-first s = begin _ _ _ _ _ (s .pre .1)
@@ -107,6 +112,10 @@ after-links : (w : tie.After-put-links)
     → Left (start-of (rack-of (wires-of (steps-of w)))) 4 (w .put-links .last .1 .1 .1 .1 .0) (w .put-links .result)
 after-links w = next (after-steps (steps-of w)) (w .put-links .ensures) (w .put-links .kept .1 .1 .1 .1 .0)
 
+after-results : (w : tie.After-put-results)
+    → Left (start-of (rack-of (wires-of (steps-of (links-of w))))) 5 (w .put-results .last .1 .1 .1 .0) (w .put-results .result)
+after-results w = next (after-links (links-of w)) (w .put-results .ensures) (w .put-results .kept .1 .1 .1 .0)
+
 put4-requires : tie.Need-put4-requires
 put4-requires c κs = room (at-first (c .before .before))
 
@@ -119,21 +128,27 @@ put-steps-requires c κs = let w = c .before .before .before in (start-of (rack-
 put-links-requires : tie.Need-put-links-requires
 put-links-requires c κs = let w = c .before .before .before in (start-of (rack-of (wires-of w)) .pre .0 .2, room (after-steps w))
 
+put-results-requires : tie.Need-put-results-requires
+put-results-requires c κs =
+    let w = c .before .before .before in
+    let p = start-of (rack-of (wires-of (steps-of w))) .pre .0 in
+    ((p .1, p .3), room (after-links w))
+
 slice-write-out : tie.Need-slice-write-out
-slice-write-out c = end-room (after-links (c .before .before))
+slice-write-out c = end-room (after-results (c .before .before))
 
 add-result : tie.Need-add-result
 add-result c =
     let w = c .before .before in
-    let g = after-links w in
-    let good = start-of (rack-of (wires-of (steps-of w))) .good in
-    record { fits = omega (arith, end-room g, g .long, good .1 .1 .1 .1 .1 .1 .1 .1 .0) }
+    let g = after-results w in
+    let good = start-of (rack-of (wires-of (steps-of (links-of w)))) .good in
+    record { fits = omega (arith, end-room g, g .long, good .1 .1 .1 .1 .1 .1 .1 .1 .1 .1 .0) }
 
 same-length : tie.Need-same-length
-same-length c = simp length-set (after-links (c .before .before) .long)
+same-length c = simp length-set (after-results (c .before .before) .long)
 
 returns : tie.Need-returns
-returns c = done (after-links (c .before .before))
+returns c = done (after-results (c .before .before))
 
 pub put-job-spec : {M : Type 1} → statement M
 put-job-spec =
@@ -143,6 +158,7 @@ put-job-spec =
     put-wires-requires
     put-steps-requires
     put-links-requires
+    put-results-requires
     slice-write-out
     add-result
     same-length

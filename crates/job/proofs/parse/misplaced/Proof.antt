@@ -27,15 +27,20 @@ returns-5 c = rw (c .match .keys5)
 
 returns-6 : tie.Need-returns-6
 unfolding misplacedNumber kindOf
-returns-6 c =
+returns-6 c = rw (c .match .keys6)
+
+returns-7 : tie.Need-returns-7
+unfolding misplacedNumber kindOf
+returns-7 c =
     let rest = c .match .rest in
     simp (
-      ne-eqb _ 1 (rest .0 .0 .0 .0 .1),
-      ne-eqb _ 2 (rest .0 .0 .0 .1),
-      ne-eqb _ 3 (rest .0 .0 .1),
-      ne-eqb _ 4 (rest .0 .1),
-      ne-eqb _ 5 (rest .1),
+      ne-eqb _ 1 (rest .0 .0 .0 .0 .0 .1),
+      ne-eqb _ 2 (rest .0 .0 .0 .0 .1),
+      ne-eqb _ 3 (rest .0 .0 .0 .1),
+      ne-eqb _ 4 (rest .0 .0 .1),
+      ne-eqb _ 5 (rest .0 .1),
+      ne-eqb _ 6 (rest .1),
     )
 
 pub misplaced-spec : {M : Type 1} → statement M
-misplaced-spec = tie.close (tie.spec returns returns-2 returns-3 returns-4 returns-5 returns-6)
+misplaced-spec = tie.close (tie.spec returns returns-2 returns-3 returns-4 returns-5 returns-6 returns-7)

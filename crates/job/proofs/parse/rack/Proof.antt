@@ -11,8 +11,8 @@ use lib.ListN.{length, getD, drop}
 use lib.Seq.{getD-drop}
 use Rattle.job.specs.declared.Platform.{Platform}
 use Rattle.job.specs.Job.{blank, withRack}
-use Rattle.job.specs.Record.{Kind, rack, step, link, end, wire, kindOf, bodyLength, noRack, stands, full, inRange, misfit, added}
-use Rattle.job.specs.Record.{platformIn}
+use Rattle.job.specs.Record.{Kind, rack, step, link, end, wire, result, kindOf, bodyLength, noRack, stands, full, inRange, misfit}
+use Rattle.job.specs.Record.{added, platformIn}
 use Rattle.job.specs.Read.{refused, refusedOr, records, readJob}
 use Rattle.job.specs.Pass.{misplacedNumber, platformTrouble, RackPassed}
 use Rattle.job.specs.Laws.Judged.{at-end, stops, short-at, whole-at}
@@ -42,6 +42,7 @@ module _ (file : List ℕ) (p : Platform) where
   first b z link e = tt
   first b z end e = tt
   first b z wire e = tt
+  first b z result e = tt
 
   module _ (h : 0 < length file) where
     other : (getD file 0 0 ≡ 1 → ⊥) → (n : ℕ) → n ≡ misplacedNumber (kindOf (getD file 0 0)) →
