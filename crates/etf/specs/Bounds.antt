@@ -23,6 +23,10 @@ mostFinish = mostTasks * mostDuration + (mostTasks - 1) * mostMessageTime
 abbrev pub mostArrival : ℕ
 mostArrival = mostFinish + mostMessageTime
 
+-- 02 §2: the end: the messages of a result come after the last finish
+abbrev pub mostEnd : ℕ
+mostEnd = mostFinish + mostMessageTime
+
 -- the messages along a chain of edges
 abbrev pub mostChain : ℕ
 mostChain = (mostTasks - 1) * mostMessageTime

@@ -1,5 +1,5 @@
 -- The worked cases of document 01 ("Ticks worked out") in one table, held to the definitions by computing them; after them cases that its
--- words settle and its list does not have, cases of document 02 §1, and the small inputs of the refusal table that are the checker's.
+-- words settle and its list does not have, cases of document 02 §1 and §2, and the small inputs of the refusal table that are the checker's.
 -- In the documents' words.
 use mathlib.Core.Option.{Option, none, some, bind, orElse}
 use mathlib.Core.Path.{_≡_, refl, sym, _∙_}
@@ -8,32 +8,34 @@ use Prim.Native.Nat.{ℕ}
 use lib.ListN.{getD}
 use Rattle.base.specs.Lists.{upto, any, all, filter, greatest, keep, best}
 use Rattle.job.specs.declared.Platform.{Platform}
-use Rattle.job.specs.Job.{Edge, Wire, wireCost, Job, blank, withRack, withWires, withTasks, withEdges}
+use Rattle.job.specs.Job.{Edge, Wire, Result, wireCost, resultCount, Job, blank, withRack, withWires, withTasks, withEdges, withResults}
 use Rattle.etf.specs.Instance.{Instance, duration, into, messageTime}
-use Rattle.etf.specs.Schedule.{Placement, placed, placementOf, finish, messageTimeTo, arrival, lastFinish, end, scheduleOf, byTask}
+use Rattle.etf.specs.Schedule.{Placement, placed, placementOf, finish, messageTimeTo, arrival, lastFinish, scheduleOf, byTask}
+use Rattle.etf.specs.Schedule.{resultTime, end, dearestResult}
 use Rattle.etf.specs.Rule.{atMost, move, settle, nextMoment, free, finished, ready, pair, pairs, choice, complete, round, run}
 use Rattle.etf.specs.Rule.{planned, roundsIn, rounds}
 use Rattle.etf.specs.Cover.{running, busy, idle, someIdle, latestIdleTick, lowestIdle, later, latestInto, back, walk, lastTask, cover}
 use Rattle.etf.specs.Dearest.{greatestCost, dearestTo, dearest}
 use Rattle.etf.specs.Checker.{firstAnswer, misplaced, overlap, early, check}
 use Rattle.etf.specs.Topology.{hypercubeHops, difference, ringHops, hops, cost, square}
-use Rattle.etf.specs.OfJob.{costsOf, instance}
+use Rattle.etf.specs.OfJob.{costsOf, instance, resultOf}
 
 -- what a case asks: the plan of a job, its plan with another priority order, the hops between two boards, the planner's rounds,
--- or the checker's answer to a plan's boards and starts
+-- the checker's answer to a plan's boards and starts, or the last finish and the dearest result time of a job's plan
 pub data Question : Type 0 where
   planOf : Job → Question
   planBy : List ℕ → Job → Question
   hopsOf : Platform → ℕ → ℕ → Question
   roundsOf : Job → Question
   answerTo : Job → List ℕ → List ℕ → Question
+  resultTimeOf : Job → Question
 
 -- the numbers that program `plan` prints after its header:
 -- of each task its number, processor, start and finish, then the end, C and the dearest chain
-pub printed : Instance → List (List ℕ)
-printed I =
+pub printed : Instance → (ℕ → ℕ) → List (List ℕ)
+printed I result =
     map (λ (u : Placement). u .task ∷ u .processor ∷ u .start ∷ finish I u ∷ []) (byTask I (planned I))
-    ++ ((end I (planned I) ∷ []) ∷ (cover I ∷ []) ∷ (dearest I ∷ []) ∷ [])
+    ++ ((end I result (planned I) ∷ []) ∷ (cover I ∷ []) ∷ (dearest I ∷ []) ∷ [])
 
 -- the same instance, its tasks by another priority
 abbrev by : List ℕ → Instance → Instance
@@ -47,12 +49,14 @@ refusal (some k) = k
 -- the lines that answer a question; all definitions are opened, so that they compute, also where another crate opens this one name
 unfoldable pub answer : Question → List (List ℕ)
 unfolding printed instance upto any all filter greatest keep best duration into messageTime
-    placed placementOf messageTimeTo arrival lastFinish end scheduleOf byTask
+    placed placementOf messageTimeTo arrival lastFinish resultCount resultTime end dearestResult scheduleOf byTask
     atMost move settle nextMoment free finished ready pair pairs choice complete round run planned roundsIn rounds
     running busy idle someIdle latestIdleTick lowestIdle later latestInto back walk lastTask cover greatestCost dearestTo dearest
     firstAnswer misplaced overlap early check hypercubeHops difference ringHops hops cost wireCost square costsOf blank bind orElse flatMap
-answer (planOf j) = printed (instance j)
-answer (planBy order j) = printed (by order (instance j))
+answer (planOf j) = printed (instance j) (resultOf j)
+answer (planBy order j) = printed (by order (instance j)) (resultOf j)
+answer (resultTimeOf j) =
+    (lastFinish (instance j) (planned (instance j)) ∷ []) ∷ (dearestResult (instance j) (resultOf j) (planned (instance j)) ∷ []) ∷ []
 answer (hopsOf r p q) = (hops r p q ∷ []) ∷ []
 answer (roundsOf j) = (rounds (instance j) ∷ []) ∷ []
 answer (answerTo j boards starts) =
@@ -157,6 +161,51 @@ unequal =
     ∷ sent (1 ∷ 0 ∷ []) (0 ∷ 6 ∷ []) 0
     ∷ []
 
+-- document 02 §2
+abbrev result : ℕ → ℕ → Result
+result T k = record { task = T; count = k }
+
+-- A, with a result of step 2
+abbrev A-delivered : Job
+A-delivered = withResults (job (rack 2 0 2) [] (4 ∷ 3 ∷ 2 ∷ []) (link 0 2 1 ∷ link 1 2 3 ∷ [])) (result 2 1 ∷ [])
+
+-- two steps without a link, of 5 and of 2, flat, c = 1
+abbrev two : List Result → Job
+two results = withResults (job (rack 2 0 1) [] (5 ∷ 2 ∷ []) []) results
+
+-- the end with results, and the dearest result time
+pub delivered : List Case
+delivered =
+    -- A: the result of step 2, on board 1, is at the gate 2 ticks after the last finish; C stays 6
+    record { question = planOf A-delivered; lines = row 0 0 0 4 ∷ row 1 1 0 3 ∷ row 2 1 6 8 ∷ totals 10 6 6 }
+    ∷ record { question = resultTimeOf A-delivered; lines = (8 ∷ []) ∷ (2 ∷ []) ∷ [] }
+    -- neither the last finish nor the last finish and the dearest result time: step 0's result takes nothing, step 1's is there at 2 + 4
+    ∷ record { question = planOf (two (result 0 3 ∷ result 1 4 ∷ [])); lines = row 0 0 0 5 ∷ row 1 1 0 2 ∷ totals 6 0 0 }
+    ∷ record { question = resultTimeOf (two (result 0 3 ∷ result 1 4 ∷ [])); lines = (5 ∷ []) ∷ (4 ∷ []) ∷ [] }
+    -- a result that is there before the last finish
+    ∷ record { question = planOf (two (result 1 2 ∷ [])); lines = row 0 0 0 5 ∷ row 1 1 0 2 ∷ totals 5 0 0 }
+    ∷ record { question = resultTimeOf (two (result 1 2 ∷ [])); lines = (5 ∷ []) ∷ (2 ∷ []) ∷ [] }
+    -- a ring of 4: board 2 is two hops from the gate, board 3 one
+    ∷ record {
+      question = planOf (withResults (job (rack 4 2 2) [] (1 ∷ 1 ∷ 1 ∷ 1 ∷ []) []) (result 1 2 ∷ result 2 2 ∷ result 3 3 ∷ []));
+      lines = row 0 0 0 1 ∷ row 1 1 0 1 ∷ row 2 2 0 1 ∷ row 3 3 0 1 ∷ totals 9 0 0;
+    }
+    -- the walk begins with the step that finishes last, 1, and not with the one whose result is there last, 2: C is 1 and not 2
+    ∷ record {
+      question = planOf (withResults (job (rack 2 0 1) [] (1 ∷ 3 ∷ 1 ∷ []) (link 0 1 1 ∷ link 0 2 2 ∷ [])) (result 2 1 ∷ []));
+      lines = row 0 0 0 1 ∷ row 1 0 1 4 ∷ row 2 1 3 4 ∷ totals 5 1 2;
+    }
+    -- the way to board 0 counts, and not the way back
+    ∷ record {
+      question = planOf (withResults (wires-2 5 1 (5 ∷ 2 ∷ []) []) (result 1 4 ∷ []));
+      lines = row 0 0 0 5 ∷ row 1 1 0 2 ∷ totals 6 0 0;
+    }
+    ∷ record {
+      question = planOf (withResults (wires-2 1 5 (5 ∷ 2 ∷ []) []) (result 1 4 ∷ []));
+      lines = row 0 0 0 5 ∷ row 1 1 0 2 ∷ totals 22 0 0;
+    }
+    ∷ []
+
 -- what its words settle beside them
 pub further : List Case
 further =
@@ -209,7 +258,7 @@ checks =
 
 -- the table
 pub cases : List Case
-cases = worked ++ (further ++ (unequal ++ checks))
+cases = worked ++ (further ++ (unequal ++ (delivered ++ checks)))
 
 -- the lines of each case of a table answer its question
 abbrev pub Right : List Case → Type 0
@@ -234,6 +283,10 @@ unequal-right : Right unequal
 unfolding unequal answer
 unequal-right = refl
 
+delivered-right : Right delivered
+unfolding delivered answer
+delivered-right = refl
+
 checks-right : Right checks
 unfolding checks answer
 checks-right = refl
@@ -242,5 +295,6 @@ checks-right = refl
 pub cases-hold : Right cases
 unfolding cases
 cases-hold =
-    join worked (further ++ (unequal ++ checks)) worked-right
-    (join further (unequal ++ checks) further-right (join unequal checks unequal-right checks-right))
+    join worked (further ++ (unequal ++ (delivered ++ checks))) worked-right
+    (join further (unequal ++ (delivered ++ checks)) further-right
+    (join unequal (delivered ++ checks) unequal-right (join delivered checks delivered-right checks-right)))

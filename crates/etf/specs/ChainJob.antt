@@ -6,8 +6,8 @@ use Prim.Native.Nat.{ℕ, suc, _-_, _*_, _≤_, _<_}
 use native.Mathlib.Omega.{arith}
 use lib.ListN.{length, replicate, length-replicate, getD-replicate}
 use Rattle.base.specs.Lists.{upto}
-use Rattle.base.specs.Laws.Lists.{upto-in, map-in, map-upto-at, map-upto-length}
-use Rattle.job.specs.Job.{Edge, wireCost, Job, blank, withRack, withTasks, withEdges}
+use Rattle.base.specs.Laws.Lists.{in-nothing, upto-in, map-in, map-upto-at, map-upto-length}
+use Rattle.job.specs.Job.{Edge, wireCost, resultCount, Job, blank, withRack, withTasks, withEdges}
 use Rattle.job.specs.Record.{wirePairs}
 use Rattle.job.specs.Accepted.{Accepted, duration, edgeAt}
 use Rattle.etf.specs.Instance.{TaskChain, tasks}
@@ -43,7 +43,7 @@ module _ (n m : ℕ) where
 
   -- it is accepted within the ranges of document 01
   pub chain-accepted : 1 ≤ n → n ≤ 16 → 1 ≤ m → m ≤ 256 → Accepted (chainJob n m)
-  unfolding chainJob blank wirePairs wireCost
+  unfolding chainJob blank wirePairs wireCost resultCount
   chain-accepted a b c d = record {
     some-processor = a;
     few-processors = b;
@@ -61,6 +61,12 @@ module _ (n m : ℕ) where
     some-message = λ i h. rw (edge-is i h) (omega arith);
     few-messages = λ i h. rw (edge-is i h) (omega arith);
     rising = λ i h. rw (edge-is i (omega arith), edge-is (suc i) h) (inl (omega arith));
+    results-rise = tt;
+    results-within = λ r h. absurd (in-nothing h);
+    results-last = λ r h. absurd (in-nothing h);
+    some-delivery = λ r h. absurd (in-nothing h);
+    few-deliveries = λ T. omega arith;
+    few-results = omega (arith, long, edges-long);
   }
     where
       tick : (t : ℕ) → t < length (chainJob n m .tasks) → duration (chainJob n m) t ≡ 1

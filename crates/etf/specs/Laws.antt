@@ -15,4 +15,5 @@ pub mod Bound
 pub mod Checker
 pub mod Times
 pub mod Costs
+pub mod Results
 pub mod OfJob

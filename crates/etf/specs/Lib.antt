@@ -16,6 +16,7 @@ pub mod Verdict
 pub mod Walks
 pub mod Chains
 pub mod WorstCase
+pub mod Results
 pub mod Jobs
 pub mod ChainJob
 -- the proofs

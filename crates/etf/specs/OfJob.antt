@@ -3,7 +3,7 @@ use mathlib.Core.List.{List}
 use Prim.Native.Nat.{ℕ}
 use lib.ListN.{length}
 use Rattle.base.specs.Lists.{upto}
-use Rattle.job.specs.Job.{wireCost, Job}
+use Rattle.job.specs.Job.{wireCost, resultCount, Job}
 use Rattle.etf.specs.Instance.{Instance}
 use Rattle.etf.specs.Topology.{cost, entry, square}
 
@@ -24,3 +24,7 @@ instance j = record {
   cost = entry (costsOf j);
   order = upto (length (j .tasks));
 }
+
+-- the counts of a job's results by task
+abbrev pub resultOf : Job → ℕ → ℕ
+resultOf j = resultCount (j .results)

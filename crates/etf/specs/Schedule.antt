@@ -1,7 +1,7 @@
 -- Schedules (01: plans), whole or begun: which task stands on which processor from when, when it finishes, when messages arrive.
 use mathlib.Core.Bool.{Bool}
 use mathlib.Core.List.{List, [], _∷_, map}
-use Prim.Native.Nat.{ℕ, _+_}
+use Prim.Native.Nat.{ℕ, _+_, _*_}
 use lib.Dec.{eqb}
 use Rattle.base.specs.Choice.{pick}
 use Rattle.base.specs.Lists.{upto, any, greatest}
@@ -45,10 +45,6 @@ module _ (I : Instance) where
   unfoldable pub lastFinish : List Placement → ℕ
   lastFinish ps = greatest finish ps
 
-  -- the end of a schedule (01: "The plan's end is the greatest finish")
-  unfoldable pub end : List Placement → ℕ
-  end ps = lastFinish ps
-
   -- the schedule that gives each task a processor and a start, by task number (01: "A plan gives each step a board .. and a start")
   unfoldable pub scheduleOf : (ℕ → ℕ) → (ℕ → ℕ) → List Placement
   scheduleOf processor start = map (λ T. record { task = T; processor = processor T; start = start T }) (upto (tasks I))
@@ -56,3 +52,18 @@ module _ (I : Instance) where
   -- a schedule of all tasks, listed by task number
   unfoldable pub byTask : List Placement → List Placement
   byTask ps = scheduleOf (λ T. placementOf ps T .processor) (λ T. placementOf ps T .start)
+
+-- with results: `result T` is the count of task T's result, 0 where it has none
+module _ (I : Instance) (result : ℕ → ℕ) where
+  -- the time of a placed task's result to processor 0 (02 §2: "its count times the cost from its board to board 0")
+  unfoldable pub resultTime : Placement → ℕ
+  resultTime u = result (u .task) * I .cost (u .processor) 0
+
+  -- the end of a schedule (02 §2: "the greatest of all finishes and of each result's finish plus its count times the cost from its board
+  -- to board 0"; over a list of results it is that sentence: `end-is` in Results.antt)
+  unfoldable pub end : List Placement → ℕ
+  end ps = greatest (λ u. finish I u + resultTime u) ps
+
+  -- 02 §2: "the dearest result time (a count times that cost) of our plan", 0 without results
+  unfoldable pub dearestResult : List Placement → ℕ
+  dearestResult ps = greatest resultTime ps

@@ -112,6 +112,14 @@ greatest-at f (x ∷ xs) t h = go (le-or-lt (suc t) (f x)) (λ k. greatest-at f 
     go (inl k) r = (x, here refl, k)
     go (inr k) r = let z = r (omega arith) in (z .0, there (z .1), z .2)
 
+-- a bound on each value is a bound on the greatest
+pub greatest-most : {A : Type 0} (f : A → ℕ) (l : List A) (b : ℕ) → ((a : A) → a ∈ l → f a ≤ b) → greatest f l ≤ b
+greatest-most f l b h = go (le-or-lt (greatest f l) b)
+  where
+    go : (greatest f l ≤ b) ⊎ (b < greatest f l) → greatest f l ≤ b
+    go (inl k) = k
+    go (inr k) = let z = greatest-at f l b k in absurd (omega (arith, h (z .0) (z .1), z .2))
+
 pub greatest-same : {A : Type 0} (f g : A → ℕ) (l : List A) → ((a : A) → a ∈ l → f a ≡ g a) → greatest f l ≡ greatest g l
 unfolding greatest
 greatest-same f g [] e = refl
