@@ -5,7 +5,7 @@ use Prim.Native.Nat.{ℕ, _^_, _≤_, _<_}
 use native.Mathlib.Omega.{arith}
 use lib.ListN.{length, take, drop, length-append}
 use Rattle.job.specs.Read.{refused, readJob}
-use Rattle.job.specs.Write.{greatestLength}
+use Rattle.job.specs.Write.{settlingLength}
 use Rattle.job.specs.RoundTrip.{settled}
 use Rattle.listing.specs.Listing.{decimal, refusalLine, listingFor, listing, ListingCall, listed, putFirst, listingCall}
 use Rattle.listing.specs.Laws.Told.{told, told-digits}
@@ -16,7 +16,7 @@ unfolding decimal
 decimal-tells x h = told-digits 10 x h
 
 -- an input is answered by its first n bytes, where no accepted file has as many
-pub first-bytes : (file : List ℕ) (n : ℕ) → greatestLength < n → listing (take n file) ≡ listing file
+pub first-bytes : (file : List ℕ) (n : ℕ) → settlingLength ≤ n → listing (take n file) ≡ listing file
 unfolding listing
 first-bytes file n h = ap listingFor (settled file n h)
 

@@ -5,3 +5,4 @@ pub mod Checker
 pub mod Reading
 pub mod Calls
 pub mod Walk
+pub mod Delivery

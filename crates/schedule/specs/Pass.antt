@@ -187,6 +187,23 @@ pub record Wired (platform : Platform) : Type 0 where
 unfoldable pub loaded : List ℕ → ℕ → ℕ → ℕ
 loaded wires p q = getD wires (16 * p + q) 0
 
+-- ---- the end
+
+-- when the result of task T is at processor 0, by the arrays; its finish where it has none
+unfoldable pub deliveredAt : List ℕ → List ℕ → List (List ℕ) → List ℕ → List ℕ → ℕ → ℕ
+deliveredAt durations results costs starts processors T =
+    getD starts T 0 + getD durations T 0 + getD results T 0 * entry costs (getD processors T 0) 0
+
+-- a schedule of m tasks of which the end can be told: `last` is no earlier than any finish, and no sum passes 32 bits
+pub record ToDeliver (m last : ℕ) (durations results : List ℕ) (costs : List (List ℕ)) (starts processors : List ℕ) : Type 0 where
+  pub few : m ≤ 256
+  pub has-starts : m ≤ length starts
+  pub has-processors : m ≤ length processors
+  pub on-processor : (T : ℕ) → T < m → getD processors T 0 < 16
+  pub finished : (T : ℕ) → T < m → getD starts T 0 + getD durations T 0 ≤ last
+  pub in-time : last ≤ mostFinish
+  pub near : (T : ℕ) → T < m → getD results T 0 * entry costs (getD processors T 0) 0 ≤ mostMessageTime
+
 -- ---- the slices
 
 -- the borrowed slices have room, and the arrivals begin with 4,096 zeros

@@ -6,7 +6,7 @@ use Rattle.job.specs.Read.{readJob}
 use Rattle.etf.specs.Instance.{Instance, tasks}
 use Rattle.etf.specs.Schedule.{lastFinish, end}
 use Rattle.etf.specs.Rule.{planned}
-use Rattle.etf.specs.OfJob.{instance}
+use Rattle.etf.specs.OfJob.{instance, resultOf}
 use Rattle.schedule.specs.declared.Outcome.{Outcome}
 use Rattle.schedule.specs.declared.Planned.{Planned}
 use Rattle.schedule.specs.declared.Planned.the-variants.{Plan, Refused}
@@ -18,7 +18,7 @@ lastOf I = lastFinish I (planned I)
 
 -- the end of the planner's schedule for a job
 unfoldable pub endOf : Job → ℕ
-endOf j = end (instance j) (planned (instance j))
+endOf j = end (instance j) (resultOf j) (planned (instance j))
 
 -- 01: "the planner m and the end"
 unfoldable pub outcome : Job → Outcome

@@ -2,6 +2,7 @@
 mod chains;
 mod checker;
 mod costs;
+mod delivery;
 mod hypercube;
 mod planner;
 mod walk;
@@ -143,9 +144,18 @@ pub fn plan(file: &[u8], starts: &mut [u32], processors: &mut [u8], scratch: &mu
         processors,
         scratch,
     );
-    let Laid::End(end) = laid else {
+    let Laid::End(last) = laid else {
         return Planned::Refused(9);
     };
+    let end = delivery::end(
+        tasks,
+        last,
+        &r.arrays.durations,
+        &r.arrays.results,
+        costs,
+        starts,
+        processors,
+    );
     Planned::Plan(Outcome { tasks, end })
 }
 

@@ -1,12 +1,15 @@
--- `plan` passes the reader's number on, refuses by 9 where `lay_out` finds a slice too short, and else answers with the end that it gives.
+-- `plan` passes the reader's number on, refuses by 9 where `lay_out` finds a slice too short, and else answers with the end of what it laid
+-- out.
 use borrow.Author.Needs.{needs}
 use Rattle.job.specs.Job.{Job}
+use Rattle.etf.specs.OfJob.{resultOf}
 use Rattle.schedule.specs.declared.Planned.{Planned}
 use Rattle.schedule.specs.declared.Planned.the-variants.{Plan, Refused}
 use Rattle.schedule.specs.Call.{arrivalPlaces, planFor}
 use Rattle.schedule.specs.Plan.{outcome, planCall}
-use Rattle.schedule.specs.Laws.Reading.{read-as, wired, instance-held, plannable}
-use Rattle.schedule.specs.Laws.Calls.{passes-on, call-short, call-end, planned-right}
+use Rattle.schedule.specs.Laws.Reading.{read-as, wired, instance-held, near-gate, plannable}
+use Rattle.schedule.specs.Laws.Calls.{passes-on, call-short, call-end, laid-holds, laid-last, planned-right}
+use Rattle.schedule.specs.Laws.Delivery.{deliverable, end-found}
 use Rattle.schedule.proofs.plan.Statement.{statement}
 use Rattle.schedule.proofs.plan.Tie as tie
 
@@ -24,6 +27,9 @@ verdict-of s = index-of s .before .before
 
 abbrev square-of : tie.After-lay-out → tie.After-square
 square-of l = l .before .before .before .before .before .before .before .before .before .before .before .before .before
+
+abbrev lay-out-of : tie.After-laid → tie.After-lay-out
+lay-out-of a = a .before .before .before .before .before .before .before .before
 
 read-requires : tie.Need-read-requires
 read-requires c κs = search needs
@@ -83,6 +89,18 @@ returns-2 c =
     let same = instance-held read (index-of s .index .ensures .0) (s .square .ensures) in
     call-short read same Refused answer _ _ _ (c .enum-told2 .given .1) (l .lay-out .ensures)
 
+end-requires : tie.Need-end-requires
+end-requires c κs =
+    let at-laid = c .before .before .before .before .before .before in
+    let l = lay-out-of at-laid in
+    let s = square-of l in
+    let v = verdict-of s in
+    let read = read-as (v .before .before .read .ensures) (v .verdict .given .1) in
+    let given = plannable read (index-of s .index .ensures .0) (s .square .ensures) in
+    let last-is = laid-last given _ _ _ (at-laid .laid .given .1) (l .lay-out .ensures) in
+    deliverable given (laid-holds given _ _ _ (at-laid .laid .given .1) (l .lay-out .ensures)) last-is _
+    (near-gate read (index-of s .index .ensures .0) (s .square .ensures))
+
 same-length-4 : tie.Need-same-length-4
 same-length-4 c = search needs
 
@@ -95,13 +113,17 @@ same-length-6 c = search needs
 returns-3 : tie.Need-returns-3
 unfolding planCall
 returns-3 c =
-    let at-laid = c .before in
-    let l = at-laid .before .before .before .before .before .before .before .before in
+    let at-laid = c .before .before .before .before .before .before .before in
+    let l = lay-out-of at-laid in
     let s = square-of l in
     let v = verdict-of s in
     let read = read-as (v .before .before .read .ensures) (v .verdict .given .1) in
     let same = instance-held read (index-of s .index .ensures .0) (s .square .ensures) in
-    call-end read same Refused answer _ _ _ (at-laid .laid .given .1) (l .lay-out .ensures) (planned-right read)
+    let given = plannable read (index-of s .index .ensures .0) (s .square .ensures) in
+    let holds = laid-holds given _ _ _ (at-laid .laid .given .1) (l .lay-out .ensures) in
+    let last-is = laid-last given _ _ _ (at-laid .laid .given .1) (l .lay-out .ensures) in
+    call-end read same Refused answer _ _ _ (at-laid .laid .given .1) (l .lay-out .ensures)
+    (λ e. planned-right read same (end-found given holds last-is _ (resultOf (read .job)) (read .results-are) (c .end .ensures)))
 
 pub plan-spec : {M : Type 1} → statement M
 plan-spec =
@@ -121,6 +143,7 @@ plan-spec =
     same-length-2
     same-length-3
     returns-2
+    end-requires
     same-length-4
     same-length-5
     same-length-6

@@ -22,7 +22,8 @@ use Rattle.etf.specs.Cover.{cover}
 use Rattle.etf.specs.Dearest.{dearest}
 use Rattle.etf.specs.Checker.{Because, no-processor, too-late, overlaps, too-early}
 use Rattle.etf.specs.Verdict.{number-only}
-use Rattle.etf.specs.OfJob.{instance}
+use Rattle.etf.specs.Rule.{planned}
+use Rattle.etf.specs.OfJob.{instance, resultOf}
 use Rattle.schedule.specs.declared.Checked.the-variants.{Yes, Refused as NotChecked}
 use Rattle.schedule.specs.declared.Planned.the-variants.{Plan}
 use Rattle.schedule.specs.declared.Figures.{Figures}
@@ -140,6 +141,20 @@ module _ {A : InArrays} (F : Plannable A) where
             (holds-plan starts processors (ltb-false _ _ p) (ltb-false _ _ q)
             (ap (λ (c : Call Laid). c .starts) h) (ap (λ (c : Call Laid). c .processors) h))
 
+    -- and the answer is its last finish
+    pub laid-last : {laid : Laid} {e : ℕ} {starts′ processors′ scratch′ : List ℕ} → laid ≡ End e
+        → called laid starts′ processors′ scratch′ ≡ layCall I starts processors scratch → e ≡ lastOf I
+    unfolding layCall laidOut
+    laid-last {e = e} {starts′} {processors′} {scratch′} is w =
+        go (tooShort arrivalPlaces (tasks I) starts processors scratch) (rw is at w)
+      where
+        go : (b : Bool)
+            → called (End e) starts′ processors′ scratch′
+            ≡ pick b (called Short starts processors scratch) (laidOut (End (lastOf I)) I starts processors scratch)
+            → e ≡ lastOf I
+        go true h = clash (sym (ap (λ (c : Call Laid). c .answer) h))
+        go false h = same-end (ap (λ (c : Call Laid). c .answer) h)
+
 -- the two numbers that measure a plan
 pub measured : (I : Instance) {C D : ℕ} → C ≡ cover I → D ≡ dearest I → record { cover = C; dearest = D } ≡ figures I
 unfolding figures
@@ -176,15 +191,11 @@ module _ {file : List ℕ} {x : Reading} {m l : ℕ} (K : Read file x m l) where
   unfolding instance
   tasks-is = K .tasks-are
 
-  -- the end is the last finish
-  end-is : lastOf J ≡ endOf (K .job)
-  unfolding lastOf endOf end
-  end-is = refl
-
-  -- the planner's answer, by the last finish that was found
-  pub planned-right : {e : ℕ} → e ≡ lastOf J → Plan (record { tasks = m; end = e }) ≡ Plan (outcome (K .job))
-  unfolding outcome
-  planned-right e-is = rw (e-is, end-is, tasks-is)
+  -- the planner's answer, by the end that was found of the instance that was held in arrays
+  pub planned-right : {H : Instance} {e : ℕ} → H ≡ J → e ≡ end H (resultOf (K .job)) (planned H)
+      → Plan (record { tasks = m; end = e }) ≡ Plan (outcome (K .job))
+  unfolding outcome endOf
+  planned-right same e-is = rw (e-is, same, tasks-is)
 
   pub check-no-starts : (starts processors : List ℕ) → length starts < m → NotChecked 9 ≡ checkCall file starts processors
   unfolding checkCall checkFor

@@ -13,12 +13,12 @@ use Rattle.job.specs.Job.{Edge}
 use Rattle.job.specs.Accepted.{Before}
 use Rattle.job.specs.Write.{edgeHeld}
 use Rattle.etf.specs.Instance.{Instance, WellFormed, tasks, duration, into, messageTime}
-use Rattle.etf.specs.Schedule.{Placement, finish, arrival}
-use Rattle.etf.specs.Rule.{begin, run}
+use Rattle.etf.specs.Schedule.{Placement, finish, arrival, lastFinish}
+use Rattle.etf.specs.Rule.{begin, run, planned}
 use Rattle.etf.specs.Bounds.{mostMessageTime, mostFinish, mostArrival}
 use Rattle.etf.specs.Laws.Placements.{into-of, into-in}
 use Rattle.etf.specs.Laws.Sound.{Opened}
-use Rattle.etf.specs.Laws.Times.{clock-after, finish-after, arrival-after}
+use Rattle.etf.specs.Laws.Times.{clock-after, finish-after, last-most, arrival-after}
 use Rattle.schedule.specs.InArrays.{InArrays, Plannable, instanceIn}
 
 module _ {A : InArrays} (F : Plannable A) where
@@ -125,6 +125,9 @@ module _ {A : InArrays} (F : Plannable A) where
 
   pub no-finish-passes : (k : ℕ) (u : Placement) → u ∈ run I k begin .placements → finish I u ≤ mostFinish
   no-finish-passes k u h = omega (arith, finish-after I well mostDuration mostMessageTime short-tasks near-processors k u h, held-few)
+
+  pub no-last-passes : lastFinish I (planned I) ≤ mostFinish
+  no-last-passes = omega (arith, last-most I well mostDuration mostMessageTime short-tasks near-processors, held-few)
 
   pub no-arrival-passes : (k T P : ℕ) → Opened I (run I k begin .placements) T → P < I .processors
       → arrival I (run I k begin .placements) T P ≤ mostArrival

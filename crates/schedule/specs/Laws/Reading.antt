@@ -17,8 +17,8 @@ use Rattle.job.specs.Accepted.{Accepted, LaidOut, Before, edgeAt, accepted-job,
 use Rattle.job.specs.RoundTrip.{read-held}
 use Rattle.etf.specs.Instance.{Instance}
 use Rattle.etf.specs.Topology.{cost, square, entry}
-use Rattle.etf.specs.OfJob.{costIn, costsOf, instance}
-use Rattle.etf.specs.Bounds.{mostCost}
+use Rattle.etf.specs.OfJob.{costIn, costsOf, instance, resultOf}
+use Rattle.etf.specs.Bounds.{mostCost, mostMessageTime}
 use Rattle.etf.specs.Laws.Costs.{square-same, cost-same, row-length}
 use Rattle.etf.specs.Laws.OfJob.{entry-most}
 use Rattle.schedule.specs.InArrays.{InArrays, byNumber, instanceIn, Ordering, Plannable}
@@ -36,6 +36,7 @@ pub record Read (file : List ℕ) (x : Reading) (m l : ℕ) : Type 0 where
   pub to-size : length (x .arrays .to) ≡ 1024
   pub counts-size : length (x .arrays .counts) ≡ 1024
   pub wires-are : (p q : ℕ) → p < 16 → q < 16 → loaded (x .arrays .wires) p q ≡ wireCost (job .wires) p q
+  pub results-are : (T : ℕ) → T < 256 → getD (x .arrays .results) T 0 ≡ resultOf job T
 
 held-as : (j : Job) (m l : ℕ) → Accepted j → length (j .tasks) ≡ m → length (j .edges) ≡ l
     → heldJob (readingOf (accepted j) .platform) m l (readingOf (accepted j) .arrays) ≡ j
@@ -65,6 +66,7 @@ read-as {file} {x} {m} {l} e v =
       to-size = ap (λ (y : Reading). length (y .arrays .to)) r ∙ s .to-length;
       counts-size = ap (λ (y : Reading). length (y .arrays .counts)) r ∙ s .counts-length;
       wires-are = wires-as j s x r;
+      results-are = λ T h. ap (λ (y : Reading). getD (y .arrays .results) T 0) r ∙ s .result-at T h;
     }
 
 -- the tasks by number are an order of them
@@ -145,6 +147,13 @@ module _ {file : List ℕ} {x : Reading} {m l : ℕ} (K : Read file x m l) where
           cost = entry (costsOf J);
           order = order;
         }
+
+    -- no result takes longer than the messages of an edge
+    pub near-gate : (T p : ℕ) → T < 256 → getD (x .arrays .results) T 0 * entry costs p 0 ≤ mostMessageTime
+    near-gate T p h =
+        let few : getD (x .arrays .results) T 0 ≤ mostCount = omega (arith, K .results-are T h, K .sound .few-deliveries T) in
+        let cheap : entry costs p 0 ≤ mostCost = rw costs-of (entry-most J held-sound p 0) in
+        mul-le-mul few cheap
 
     -- and all that is asked of them
     pub plannable : Plannable A
