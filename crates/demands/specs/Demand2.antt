@@ -22,7 +22,7 @@ use Rattle.etf.specs.Cover.{cover}
 use Rattle.etf.specs.Dearest.{Chain, price, dearest}
 use Rattle.etf.specs.Checker.{Keeps}
 use Rattle.etf.specs.Walks.{CoverWalk}
-use Rattle.etf.specs.OfJob.{instance}
+use Rattle.etf.specs.OfJob.{instance, resultOf}
 use Rattle.schedule.specs.declared.Planned.the-variants.{Plan, Refused as NotPlanned}
 use Rattle.schedule.specs.declared.Covered.the-variants.{Cover, Refused as NotCovered}
 use Rattle.schedule.specs.declared.Checked.the-variants.{Yes}
@@ -47,7 +47,7 @@ pub record ByTheRule (file : List ℕ) (m E : ℕ) (start processor : ℕ → �
   pub job : Job
   pub of-file : readJob file ≡ accepted job
   pub tasks-are : m ≡ tasks (instance job)
-  pub end-is : E ≡ end (instance job) (planned (instance job))
+  pub end-is : E ≡ end (instance job) (resultOf job) (planned (instance job))
   pub starts-are : (T : ℕ) → T < m → start T ≡ placementOf (planned (instance job)) T .start
   pub processors-are : (T : ℕ) → T < m → processor T ≡ placementOf (planned (instance job)) T .processor
 
@@ -75,7 +75,7 @@ pub bytes-are-etf : (file plan : List ℕ) → planBytesCall file plan .number �
 bytes-are-etf file plan h =
     let P = bytes-as file plan h in (
       tasks (instance (P .job)),
-      end (instance (P .job)) (planned (instance (P .job))),
+      end (instance (P .job)) (resultOf (P .job)) (planned (instance (P .job))),
       record {
         job = P .job;
         of-file = P .says;

@@ -1,15 +1,21 @@
 -- Demand 3 of the notice: how far from the best the planner's plan can be, by the numbers that the two calls return.
 use mathlib.Core.Path.{_≡_, refl, ap, _∙_}
-use mathlib.Core.List.{List}
+use mathlib.Core.List.{List, []}
 use Prim.Native.Nat.{ℕ, _+_, _*_, _-_, _≤_}
+use native.Mathlib.Nat.{add-zero}
 use lib.ListN.{length}
 use Rattle.job.specs.Job.{Job}
 use Rattle.job.specs.Read.{accepted, readJob}
 use Rattle.job.specs.Accepted.{accepted-job}
 use Rattle.etf.specs.Ideal.{Ideal, makespan}
-use Rattle.etf.specs.OfJob.{instance}
+use Rattle.etf.specs.Schedule.{dearestResult}
+use Rattle.etf.specs.Rule.{planned}
+use Rattle.etf.specs.Cover.{cover}
+use Rattle.etf.specs.OfJob.{instance, resultOf}
 use Rattle.etf.specs.Jobs.{well-formed}
-use Rattle.etf.specs.WorstCase.{within, some-ideal}
+use Rattle.etf.specs.Jobs.{without-results as without}
+use Rattle.etf.specs.WorstCase.{some-ideal}
+use Rattle.etf.specs.Results.{within}
 use Rattle.schedule.specs.declared.Planned.the-variants.{Plan}
 use Rattle.schedule.specs.declared.Covered.the-variants.{Cover}
 use Rattle.schedule.specs.declared.Outcome.{Outcome}
@@ -20,16 +26,25 @@ use Rattle.schedule.specs.Lent.{HasRoom}
 use Rattle.schedule.specs.Answered.{one-job}
 use Rattle.demands.specs.Laws.Answers.{planned-as, outcome-is, covered-as, figures-is, plan-taken, cover-taken}
 
+-- 02 §2: "the dearest result time (a count times that cost) of our plan"; in those words: `result-time-right` of crate etf's Jobs
+abbrev pub resultTime : Job → ℕ
+resultTime j = dearestResult (instance j) (resultOf j) (planned (instance j))
+
 -- what is promised of the numbers E, C and D that the calls report for a file
 pub record Promised (file : List ℕ) (E C D : ℕ) : Type 0 where
   -- the file is that of a job
   pub job : Job
   pub of-file : readJob file ≡ accepted job
   -- for every ideal schedule of the job (01: a rival plan), whose messages take no time and whose starts are any natural numbers; F is its
-  -- makespan
-  pub end-within : (R : Ideal (instance job))
-      → job .platform .processors * E ≤ (2 * job .platform .processors - 1) * makespan (instance job) R + job .platform .processors * C
+  -- makespan. 02 §2: "C plus the dearest result time .. of our plan where C stood"; it is 0 for a job without results
+  pub end-within : (S : Ideal (instance job))
+      → job .platform .processors * E
+      ≤ (2 * job .platform .processors - 1) * makespan (instance job) S + job .platform .processors * (C + resultTime job)
+  -- 02 §2: "it is C alone, without the result time, that is at most the dearest chain"
   pub cover-within : C ≤ D
+  -- a job without results: document 00's own inequality
+  pub without-results : job .results ≡ [] → (S : Ideal (instance job))
+      → job .platform .processors * E ≤ (2 * job .platform .processors - 1) * makespan (instance job) S + job .platform .processors * C
   -- and there is an ideal schedule
   pub some-schedule : Ideal (instance job)
 
@@ -54,11 +69,14 @@ worst-case file o f starts processors scratch p starts₂ processors₂ scratch�
     bounds j a e g =
         let W = well-formed j (accepted-job file j a) in
         let ideal = some-ideal (instance j) W .0 in
+        let each = within (instance j) W (resultOf j) in
         record {
           job = j;
           of-file = a;
-          end-within = λ R. rw (e, g) (within (instance j) W R .end-within);
-          cover-within = rw g (within (instance j) W ideal .cover-within);
+          end-within = λ S. rw (e, g) (each S .end-within);
+          cover-within = rw g (each ideal .cover-within);
+          without-results = λ n S.
+              rw (e, g) (rw (without j (accepted-job file j a) n .1, add-zero (cover (instance j))) at (each S .end-within));
           some-schedule = ideal;
         }
 
