@@ -1,9 +1,10 @@
 /* Kelvrist: plans a job for linked processors, and checks plans. Library libkelvrist.a.
  *
  * A job is a platform of 1 to 16 equal processors, 1 to 256 tasks and up to 1,024 edges. An edge says
- * that one task sends messages to another, which cannot start before they are there. A plan gives each
- * task a processor and a start. Times are whole ticks. (The customer's papers call a platform a rack,
- * a processor a board, a task a step and an edge a link.)
+ * that one task sends messages to another, which cannot start before they are there. A task that sends
+ * to no other may have a result: messages to processor 0, where the reject gate hangs. A plan gives
+ * each task a processor and a start. Times are whole ticks. (The customer's papers call a platform a
+ * rack, a processor a board, a task a step and an edge a link.)
  *
  *     uint8_t plan[KELVRIST_PLAN_BYTES];
  *     uint32_t answer = kelvrist_plan(job, job_length, plan, sizeof plan);
@@ -20,24 +21,32 @@
  *
  * Records, each of one byte of kind and a body. Numbers of more than one byte are little-endian.
  *
- *     kind  name  body
- *     1     rack  processors n (1 byte, 1 to 16), wiring (1 byte: 0 flat, 1 cube, 2 ring,
- *                 3 by wires), unit cost c (1 byte, 0 to 100)
- *     5     wire  from processor (1 byte), to processor (1 byte), cost (1 byte, 0 to 250)
- *     2     step  a task: duration (4 bytes, 1 to 1,000,000)
- *     3     link  an edge: from (1 byte), to (1 byte), message count (2 bytes, 1 to 1,000)
- *     4     end   none
+ *     kind  name    body
+ *     1     rack    processors n (1 byte, 1 to 16), wiring (1 byte: 0 flat, 1 cube, 2 ring,
+ *                   3 by wires), unit cost c (1 byte, 0 to 100)
+ *     5     wire    from processor (1 byte), to processor (1 byte), cost (1 byte, 0 to 250)
+ *     2     step    a task: duration (4 bytes, 1 to 1,000,000)
+ *     3     link    an edge: from (1 byte), to (1 byte), message count (2 bytes, 1 to 1,000)
+ *     6     result  task (1 byte), message count (2 bytes, 1 to 1,000)
+ *     4     end     none
  *
- * One rack, then under wiring 3 the wires, then the steps, then the links, then the end record and no
- * more bytes. There is a wire for each ordered pair of different processors below n, so n(n - 1) of
- * them, and they rise by from, then by to. Tasks are numbered from 0 as they stand; m is how many there
- * are. An edge has from below to and to below m. Edges rise by from, then by to, and no pair stands
- * twice. A job has 5 + 5 times (tasks + edges) bytes, and 4 more for each wire.
+ * One rack, then under wiring 3 the wires, then the steps, then the links, then the results, then the
+ * end record and no more bytes; there may be no links and no results. There is a wire for each ordered
+ * pair of different processors below n, so n(n - 1) of them, and they rise by from, then by to. Tasks
+ * are numbered from 0 as they stand; m is how many there are. An edge has from below to and to below m.
+ * Edges rise by from, then by to, and no pair stands twice. A result is of a task below m that no edge
+ * is from; results rise by task, and no task has two. A job has 5 + 5 times (tasks + edges) bytes, and
+ * 4 more for each wire and for each result.
  *
  * Messages from processor p to processor q take their count times the cost from p to q. That is 0 from
  * a processor to itself; else, under wiring 3, the cost of the wire from p to q, which may differ from
  * that of the way back, and c is not used; else c times the hops: 1 (flat), the number of binary places
  * in which p and q differ (cube), or the shorter way round (ring).
+ *
+ * Results move no task: a job with results gets the plan that it gets without them. They count for the
+ * plan's end, which is the greatest of all finishes and of each result's arrival: its task's finish
+ * plus its count times the cost from the task's processor to processor 0. Program `plan` prints the
+ * end; the two functions here do not return it.
  *
  *
  * The plan's bytes
@@ -52,7 +61,7 @@
  *   length is 0.
  * - The bytes of the job and of the plan do not overlap, and nobody else writes to them during a call,
  *   nor reads the plan that kelvrist_plan is filling.
- * - The stack has room: kelvrist_plan takes about 36 KB, kelvrist_check about 14 KB.
+ * - The stack has room: kelvrist_plan takes about 38 KB, kelvrist_check about 16 KB.
  *
  * The library takes nothing from the heap, has no global data and keeps nothing between calls: calls
  * may run at the same time in different threads. Of the C library it needs memcpy and memset alone. It
@@ -73,15 +82,16 @@ extern "C" {
 #define KELVRIST_TASKS 256
 #define KELVRIST_EDGES 1024
 #define KELVRIST_WIRES 240
-#define KELVRIST_JOB_BYTES 7365
+#define KELVRIST_RESULTS 256
+#define KELVRIST_JOB_BYTES 8369
 #define KELVRIST_PLAN_BYTES 1280
 #define KELVRIST_LATEST_START 600000000
 
 /* What a call returns.
  *
  * The first trouble counts. Records are judged from the left, and within a record the order is 2, 3,
- * 5, 1, 4, 14, 6, 7; then come 8 and 9. kelvrist_check goes on with each task by number, 10 before 11,
- * then with 12 for any two tasks, then with 13 for any edge.
+ * 5, 1, 4, 14, 15, 6, 7; then come 8 and 9. kelvrist_check goes on with each task by number, 10 before
+ * 11, then with 12 for any two tasks, then with 13 for any edge.
  */
 enum kelvrist_answer {
     /* The job is planned, or the plan handed in is good. */
@@ -91,14 +101,14 @@ enum kelvrist_answer {
 
     /* The job's bytes end where a record or the rest of one is due. An empty job is one such. */
     KELVRIST_JOB_ENDS_EARLY = 1,
-    /* A record's kind is not 1 to 5. */
+    /* A record's kind is not 1 to 6. */
     KELVRIST_KIND_UNKNOWN = 2,
-    /* A record of a known kind may not stand here: the first is no rack, a rack stands again, a link or
-     * the end stands before any step, a step stands after a link, or a wire stands under a wiring other
-     * than 3 or after a step. */
+    /* A record of a known kind may not stand here: the first is no rack, a rack stands again, a link, a
+     * result or the end stands before any step, a step stands after a link or a result, a link stands
+     * after a result, or a wire stands under a wiring other than 3 or after a step. */
     KELVRIST_KIND_OUT_OF_PLACE = 3,
-    /* A number of processors, wiring, unit cost, duration, message count or cost of a wire is outside
-     * its range. */
+    /* A number of processors, wiring, unit cost, duration, message count (of an edge or a result) or
+     * cost of a wire is outside its range. */
     KELVRIST_VALUE_OUT_OF_RANGE = 4,
     /* There is a task past 256 or an edge past 1,024. */
     KELVRIST_TOO_MANY = 5,
@@ -111,6 +121,9 @@ enum kelvrist_answer {
     /* A wire is not that of the next pair due or comes past the last, or a step stands before all pairs
      * have a wire. */
     KELVRIST_WIRE_ORDER = 14,
+    /* A result is of a task that is not below m or that an edge is from, or it does not stand above the
+     * result before it. */
+    KELVRIST_RESULT_TASK = 15,
 
     /* The plan's buffer is refused: either function. */
 
@@ -134,7 +147,7 @@ enum kelvrist_answer {
  * accepts it.
  *
  * On KELVRIST_OK the first 5m bytes of the plan are filled, and no other byte is altered.
- * On 1 to 9 and on 14 nothing is altered. 10 to 13 are not returned.
+ * On 1 to 9, 14 and 15 nothing is altered. 10 to 13 are not returned.
  */
 uint32_t kelvrist_plan(const uint8_t *job, size_t job_length, uint8_t *plan, size_t plan_length);
 
@@ -142,8 +155,8 @@ uint32_t kelvrist_plan(const uint8_t *job, size_t job_length, uint8_t *plan, siz
  * overlap on a processor, and no task starts before the messages sent to it are there. The plan need
  * not be kelvrist_plan's.
  *
- * Returns KELVRIST_OK for a good plan, or 1 to 14. The first 5m bytes of the plan are read, no others;
- * nothing is altered.
+ * Returns KELVRIST_OK for a good plan, or 1 to 15. When results arrive is not judged. The first 5m
+ * bytes of the plan are read, no others; nothing is altered.
  */
 uint32_t kelvrist_check(const uint8_t *job, size_t job_length, const uint8_t *plan, size_t plan_length);
 

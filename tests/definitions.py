@@ -5,8 +5,9 @@
 
 It copies the definitions, and what they cite in the crates below, to target/definitions: no law, no theorem and no function, so
 that a changed definition can be tried before the laws are mended. Beside them it writes a crate `held` with a theorem a job, each
-by computing the definitions: the plan, its end, C, the dearest chain, the rounds, the arrivals and the square of costs, and the
-checker's answers to some plans. `rt dev` then says which do not hold. What is expected is by the reference alone, tests/rules.py.
+by computing the definitions: the plan, its end, C, the dearest chain, each result's time and the dearest, the rounds, the arrivals
+and the square of costs, and the checker's answers to some plans. `rt dev` then says which do not hold. What is expected is by the
+reference alone, tests/rules.py.
 
 Status 1: the definitions and the reference differ. Status 2: they cannot be compared, as a definition does not check.
 """
@@ -27,15 +28,16 @@ FOLDER = TOP / "target" / "definitions"
 CRATE = "etf"
 MODULES = "Instance Schedule Rule Cover Dearest Checker Topology OfJob".split()  # those of CRATE; what they cite is found
 CITED = re.compile(r"^(?:pub )?use Rattle·(\w+?)(?:·specs)?\.specs\.([\w.]+)\.\{", re.M)
-COMPUTES = re.compile(r"^ *unfoldable pub (\S+) :", re.M)
-OWN = "none some bind orElse refl map flatMap getD tasks finish wire link job numberOf seen checked".split()  # those of HEAD
+COMPUTES, SHORT = re.compile(r"^ *unfoldable pub (\S+) :", re.M), re.compile(r"^ *abbrev pub (\S+) :", re.M)
+RESULTS = "resultOf resultTime dearestResult end".split()  # brought in where they only abbreviate, too
+OWN = "none some bind orElse refl map flatMap getD tasks finish wire link result job numberOf seen checked".split()  # those of HEAD
 HEAD = """-- Made by tests/definitions.py.
 use mathlib.Core.Option.{{Option, none, some, bind, orElse}}
 use mathlib.Core.Path.{{_≡_, refl}}
 use mathlib.Core.List.{{List, [], _∷_, _++_, map, flatMap}}
 use Prim.Native.Nat.{{ℕ}}
 use lib.ListN.{{getD}}
-use Rattle.job.specs.Job.{{Wire, Edge, Job}}
+use Rattle.job.specs.Job.{{Wire, Edge, Result, Job}}
 use Rattle.etf.specs.Instance.{{Instance, tasks}}
 use Rattle.etf.specs.Schedule.{{Placement, finish}}
 {uses}
@@ -46,17 +48,26 @@ wire p q c = record {{ from = p; to = q; cost = c }}
 abbrev link : ℕ → ℕ → ℕ → Edge
 link a b k = record {{ from = a; to = b; count = k }}
 
-abbrev job : ℕ → ℕ → ℕ → List Wire → List ℕ → List Edge → Job
-job n w c ws ts es = record {{ platform = record {{ processors = n; topology = w; unit = c }}; wires = ws; tasks = ts; edges = es }}
+abbrev result : ℕ → ℕ → Result
+result T k = record {{ task = T; count = k }}
+
+abbrev job : ℕ → ℕ → ℕ → List Wire → List ℕ → List Edge → List Result → Job
+job n w c ws ts es rs = record {{
+  platform = record {{ processors = n; topology = w; unit = c }};
+  wires = ws;
+  tasks = ts;
+  edges = es;
+  results = rs;
+}}
 
 abbrev numberOf : Option ℕ → ℕ
 numberOf none = 0
 numberOf (some k) = k
 
-seen : Instance → List (List ℕ)
-seen I =
-    map (λ (u : Placement). u .task ∷ u .processor ∷ u .start ∷ finish I u ∷ []) (byTask I (planned I))
-    ++ ((end I (planned I) ∷ cover I ∷ dearest I ∷ rounds I ∷ [])
+seen : Instance → (ℕ → ℕ) → List (List ℕ)
+seen I r =
+    map (λ (u : Placement). u .task ∷ u .processor ∷ u .start ∷ finish I u ∷ resultTime I r u ∷ []) (byTask I (planned I))
+    ++ ((end I r (planned I) ∷ cover I ∷ dearest I ∷ dearestResult I r (planned I) ∷ rounds I ∷ [])
     ∷ map (λ T. map (λ P. arrival I (planned I) T P) (upto (I .processors))) (upto (tasks I)))
 
 checked : Instance → List ℕ → List ℕ → ℕ
@@ -106,6 +117,7 @@ def brought_in(modules):
         some = COMPUTES.findall(text)
         here = [name if name not in (*OWN, *names) else f"{name}-{crate}-{module.replace('.', '-')}" for name in some]
         named = [name if name == as_here else f"{name} as {as_here}" for name, as_here in zip(some, here)]
+        named += [name for name in SHORT.findall(text) if crate == CRATE and name in RESULTS]
         uses += [f"use Rattle.{crate}.specs.{module}.{{{', '.join(named)}}}"] if named else []
         names += here
     return uses, names
@@ -121,21 +133,30 @@ def rows(lists):
     return "(" + " ∷ ".join([numbers(l) for l in lists] + ["[]"]) + ")"
 
 
-def made(name, threes):
-    """The list of what a name makes of three numbers each."""
-    return "(" + " ∷ ".join([f"{name} {a} {b} {c}" for a, b, c in threes] + ["[]"]) + ")"
+def made(name, lists):
+    """The list of what a name makes of some numbers each."""
+    return "(" + " ∷ ".join([" ".join(map(str, (name, *given))) for given in lists] + ["[]"]) + ")"
 
 
 def some_job(dice):
     m, n = dice.randint(1, 9), dice.randint(1, dice.choice((2, 4, 16)))
     pairs = [(a, b) for b in range(m) for a in range(b)]
-    share = dice.random()
+    share = dice.choice((0.15, 0.3, dice.random()))
     links = [(a, b, dice.randint(1, 4)) for a, b in sorted(pairs) if dice.random() < share]
-    wiring, unit, durations = dice.randint(0, 3), dice.randint(0, 3), [dice.randint(1, 8) for _ in range(m)]
+    wiring, unit, durations = dice.choice((0, 1, 2, 3, 3, 3)), dice.randint(0, 3), [dice.randint(1, 8) for _ in range(m)]
     if wiring == 3:
         most = dice.choice((2, 9, 250))
-        return rules.wired(n, [dice.randint(0, most) for _ in rules.pairs_due(n)], durations, links, unit)
-    return rules.job(n, wiring, unit, durations, links)
+        job = rules.wired(n, [dice.randint(0, most) for _ in rules.pairs_due(n)], durations, links, unit)
+    else:
+        job = rules.job(n, wiring, unit, durations, links)
+    job.results = some_results(dice, job)
+    return job
+
+
+def some_results(dice, job):
+    """Results of none of the steps that may have one, of some or of all."""
+    share, most = dice.choice((0, 0.5, 1, 1)), dice.choice((1, 5, 1000))
+    return [(step, dice.randint(1, most)) for step in rules.last_steps(job) if dice.random() < share]
 
 
 def some_plans(dice, job, plan):
@@ -156,12 +177,14 @@ def theorem(i, dice, names):
     job = some_job(dice)
     plan = rules.plan(job)
     m, n, durations = len(job.steps), job.boards, job.durations
-    wires, links = made("wire", job.wires), made("link", job.links)
-    text = [f"abbrev job-{i} : Job", f"job-{i} = job {n} {job.wiring} {job.unit} {wires} {numbers(durations)} {links}", ""]
-    lines = [(t, plan.board[t], plan.start[t], plan.start[t] + durations[t]) for t in range(m)]
-    lines.append((plan.end, rules.cover(job, plan), rules.dearest(job), plan.rounds))
+    wires, links, results = made("wire", job.wires), made("link", job.links), made("result", job.results)
+    text = [f"abbrev job-{i} : Job", f"job-{i} = job {n} {job.wiring} {job.unit} {wires} {numbers(durations)} {links} {results}", ""]
+    times = dict(rules.result_times(job, plan.board))
+    lines = [(t, plan.board[t], plan.start[t], plan.start[t] + durations[t], times.get(t, 0)) for t in range(m)]
+    lines.append((plan.end, rules.cover(job, plan), rules.dearest(job), rules.dearest_result(job, plan), plan.rounds))
     lines += [plan.arrival[16 * t : 16 * t + n] for t in range(m)]
-    text += [f"plan-{i} : seen (instance job-{i}) ≡ {rows(lines)}", f"unfolding seen bind flatMap {names}", f"plan-{i} = refl", ""]
+    text += [f"plan-{i} : seen (instance job-{i}) (resultOf job-{i}) ≡ {rows(lines)}"]
+    text += [f"unfolding seen bind flatMap {names}", f"plan-{i} = refl", ""]
     text += [f"square-{i} : costsOf job-{i} ≡ {rows(rules.square(job))}", f"unfolding {names}", f"square-{i} = refl", ""]
     found = []
     for k, (boards, starts) in enumerate(some_plans(dice, job, plan)):

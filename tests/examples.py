@@ -4,9 +4,9 @@
     examples.py
 
 Of each example: its text makes its job file, the job file's text makes it again, the reference prints its plan, and the chart
-is well-formed and has a box for each step. docs/plan.svg is what tools/gantt draws. A table of bad texts and bad files has the
-message that each gets. On random files tools/job refuses as the reference does, and the walk that tools/gantt goes has the
-reference's cover for its sum. The first thing that differs is printed, with status 1.
+is well-formed and has a box for each step and a mark for each result. docs/plan.svg is what tools/gantt draws. A table of bad
+texts and bad files has the message that each gets. On random files tools/job refuses as the reference does, tools/gantt has the
+reference's end, and its walk the reference's cover for its sum. The first thing that differs is printed, with status 1.
 """
 import subprocess
 import sys
@@ -18,12 +18,12 @@ sys.path[:0] = [str(TOP / folder) for folder in ("tests", "tests/differential", 
 sys.dont_write_bytecode = True
 import rules  # noqa: E402
 from jobs import some_file  # noqa: E402
-from kelvrist import jobfile, jobtext, listing  # noqa: E402
+from kelvrist import jobfile, jobtext, listing, results  # noqa: E402
 from kelvrist.walk import walk  # noqa: E402
 from vectors.dice import Dice  # noqa: E402
 
 EXAMPLES = TOP / "examples"
-NAMES = ["a", "cube16", "forkjoin", "greatest", "postponed", "ring", "wires"]
+NAMES = ["a", "cube16", "forkjoin", "greatest", "postponed", "results", "ring", "wires"]
 PICTURE = "forkjoin"  # the example that docs/plan.svg shows
 FILES = 300
 SVG = "{http://www.w3.org/2000/svg}"
@@ -40,9 +40,9 @@ BAD_TEXTS = [
     (RACK + "link 0 1 1\n", 2, "a step must come before the link"),
     (RACK + RACK, 2, "there is a rack already"),
     (TWO + "link 0 1 1\nstep 5\n", 5, "steps come before links"),
-    (RACK + "stpe 5\n", 2, "'stpe': a line begins with rack, wire, step or link"),
-    (TWO + "end\n", 4, "'end': a line begins with rack, wire, step or link"),
-    ("\x1b[2J\n", 1, "'\\x1b[2J': a line begins with rack, wire, step or link"),
+    (RACK + "stpe 5\n", 2, "'stpe': a line begins with rack, wire, step, link or result"),
+    (TWO + "end\n", 4, "'end': a line begins with rack, wire, step, link or result"),
+    ("\x1b[2J\n", 1, "'\\x1b[2J': a line begins with rack, wire, step, link or result"),
     ("rack 2 flat\n", 1, "rack: 3 words must follow (boards, wiring, cost), not 2"),
     ("rack 2 flat 2 2\n", 1, "rack: 3 words must follow (boards, wiring, cost), not 4"),
     (RACK + "step # 5\n", 2, "step: 1 word must follow (duration), not 0"),
@@ -97,10 +97,29 @@ BAD_TEXTS = [
     (OWN + "wire 0 1 7\nstep 5\n", 3, "wire 1 to 0 must come before the first step"),
     (OWN + "step 0\n", 2, "duration 0 is not 1 to 1000000"),
     ("rack 2 wires 101\n", 1, "cost 101 is not 0 to 100"),
+    ("result 0 1\n", 1, "a rack must come before the result"),
+    (RACK + "result 0 1\n", 2, "a step must come before the result"),
+    (OWN + "result 0 1\n", 2, "wire 0 to 1 must come before the result"),
+    (WIRED + "result 0 1\n", 4, "a step must come before the result"),
+    (TWO + "result 0 1\nstep 5\n", 5, "steps come before results"),
+    (TWO + "link 0 1 1\nresult 1 1\nstep 5\n", 6, "steps come before links"),
+    (TWO + "result 0 1\nlink 0 1 1\n", 5, "links come before results"),
+    (WIRED + "step 5\nresult 0 1\nwire 0 1 7\n", 6, "wires come before steps"),
+    (TWO + "result 0 1\n" + RACK, 5, "there is a rack already"),
+    (TWO + "result 0\n", 4, "result: 2 words must follow (step, messages), not 1"),
+    (TWO + "result 0 1 1\n", 4, "result: 2 words must follow (step, messages), not 3"),
+    (TWO + "result one 1\n", 4, "step 'one' is not a whole number (digits alone)"),
+    (TWO + "result 0 0\n", 4, "messages 0 is not 1 to 1000"),
+    (TWO + "result 2 1001\n", 4, "messages 1001 is not 1 to 1000"),
+    (TWO + "result 2 1\n", 4, "result of step 2: the last step is 1"),
+    (TWO + "result 300 1\n", 4, "result of step 300: the last step is 1"),
+    (TWO + "link 0 1 1\nresult 0 1\n", 5, "result of step 0: it sends to step 1, and only a step that sends to none has a result"),
+    (TWO + "result 1 1\nresult 0 1\n", 5, "result of step 0: results rise by step, and the one before is of step 1"),
+    (TWO + "result 1 1\nresult 1 2\n", 5, "result of step 1: results rise by step, and the one before is of step 1"),
 ]
 
 # The refusals of a job file: its bytes, and the end of the line that `tools/job show` gives.
-A, W = (EXAMPLES / "a.job").read_bytes(), (EXAMPLES / "wires.job").read_bytes()
+A, W, R = ((EXAMPLES / f"{name}.job").read_bytes() for name in ("a", "wires", "results"))
 BAD_FILES = [
     (b"", 1, 0, "a record is due"),
     (A[:20], 1, 19, "the link is cut"),
@@ -119,6 +138,15 @@ BAD_FILES = [
     (W[:4] + W[8:], 14, 4, "wire 0 to 2: wires rise by from, then by to, and the next is 0 to 1"),
     (W[:28] + b"\x05\x03\x00\x01", 14, 28, "wire 3 to 0: all 6 wires are there already"),
     (W[:24] + W[28:], 14, 24, "wire 2 to 1 must come before the first step"),
+    (R[:-2], 1, 102, "the result is cut"),
+    (A[:4] + R[98:], 3, 4, "a step must come before the result"),
+    (R[:-1] + A[4:9], 3, 106, "steps come before links"),
+    (A[:9] + b"\x06\x00\x01\x00" + A[4:9], 3, 13, "steps come before results"),
+    (R[:-1] + A[19:24], 3, 106, "links come before results"),
+    (R[:102] + b"\x06\x09\x00\x00\x04", 4, 102, "messages 0 is not 1 to 1000"),
+    (R[:102] + b"\x06\x06\x01\x00\x04", 15, 102, "result of step 6: the last step is 5"),
+    (R[:98] + b"\x06\x03\x01\x00\x04", 15, 98, "result of step 3: it sends to step 4, and only a step that sends to none has a result"),
+    (R[:102] + R[98:], 15, 102, "result of step 4: results rise by step, and the one before is of step 4"),
 ]
 
 
@@ -155,8 +183,19 @@ def hold_example(name):
     rows = [row.split() for row in plan.read_text().split("\n")[1:-4]]
     due = ["step {}: board {}, start {}, finish {}".format(*row) for row in rows]
     hold(f"the boxes of {name}", [box.find(f"{SVG}title").text for box in boxes], due)
+    marks = [mark for mark in Xml.fromstring(chart).iter(f"{SVG}path") if mark.get("class") == "gate"]
+    hold(f"the results of {name}", [mark.find(f"{SVG}title").text for mark in marks], list(due_marks(rules.read(data))))
     if name == PICTURE:
         hold("docs/plan.svg", (TOP / "docs" / "plan.svg").read_bytes(), chart)
+
+
+def due_marks(job):
+    """What the chart says of each result."""
+    plan, counts = rules.plan(job), dict(job.results)
+    for step, time in rules.result_times(job, plan.board):
+        finish, count = plan.start[step] + job.durations[step], counts[step]
+        messages = f"{count:,} message" + "s" * (count != 1)
+        yield f"result of step {step}: {messages}, from board {plan.board[step]} at {finish} to board 0 at {finish + time}"
 
 
 def hold_texts():
@@ -193,13 +232,14 @@ def answer(module, data):
 
 
 def hold_walks():
-    """The walk's sum is the cover, on the random files that are small jobs; gives how many."""
+    """The end, and the walk's sum, which is the cover, on the random files that are small jobs; gives how many."""
     walked = 0
     for number in range(FILES):
         data = some_file(Dice(number))
         if answer(rules, data) == 0 and len(data) < 400:
-            plan = listing.read(rules.report(data).encode())
-            hold(f"the walk's sum in random file {number}", sum(move.time for move in walk(jobfile.read(data), plan.steps)), plan.cover)
+            plan, job = listing.read(rules.report(data).encode()), jobfile.read(data)
+            hold(f"the end in random file {number}", results.end(job, plan.steps), plan.end)
+            hold(f"the walk's sum in random file {number}", sum(move.time for move in walk(job, plan.steps)), plan.cover)
             walked += 1
     return walked
 
@@ -225,8 +265,21 @@ def hold_programs():
     said = "the listing is of another job: 2 boards, 3 steps and 2 links, the job has 8, 16 and 26\n"
     hold("tools/gantt of another job", run("gantt", EXAMPLES / "ring.job", data=plan.read_bytes()), (b"", said, 1))
     hold("tools/gantt of a listing alone", run("gantt", data=plan.read_bytes())[1:], ("", 0))
+    hold_ends(plan.read_bytes())
     closed = subprocess.run(f"'{sys.executable}' '{TOP}/tools/job' show '{job}' 2>&1 >&-", shell=True, capture_output=True, text=True)
     hold("tools/job with no output", (closed.stdout, closed.returncode), ("standard output: Bad file descriptor\n", 1))
+
+
+def hold_ends(plan):
+    """tools/gantt of listings whose end is not what it should be; one alone may end after the last finish."""
+    late = (EXAMPLES / "results.plan").read_bytes()
+    said = "this is no plan's listing: it ends at 7, before the last finish, 8\n"
+    hold("tools/gantt of an early end", run("gantt", data=plan.replace(b"end 8", b"end 7")), (b"", said, 1))
+    said = "the listing is of another job: it ends at 9, by the job's steps and results it ends at 8\n"
+    hold("tools/gantt of a late end", run("gantt", EXAMPLES / "a.job", data=plan.replace(b"end 8", b"end 9")), (b"", said, 1))
+    said = "the listing is of another job: it ends at 58, by the job's steps and results it ends at 67\n"
+    hold("tools/gantt of the last finish", run("gantt", EXAMPLES / "results.job", data=late.replace(b"end 67", b"end 58")), (b"", said, 1))
+    hold("tools/gantt of results alone", run("gantt", data=late)[1:], ("", 0))
 
 
 def main():

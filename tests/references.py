@@ -44,7 +44,7 @@ def asked(cases):
     """Each job file with no plan, and each plan of a case `b` with its job file; nothing twice. A case of the writer has no file."""
     found = {}
     for kind, body in split(cases):
-        if kind not in "wv":
+        if kind not in "wvu":
             at = before_the_file(kind, body)
             found[body[at:], None] = True
             if kind == "b":

@@ -9,21 +9,28 @@ from types import ModuleType
 sys.path.insert(0, str(Path(__file__).resolve().parent / "reference"))
 import requests  # noqa: E402
 from requests import LATEST_START, Job, Refused, pairs_due, plain, read, report, square, write  # noqa: E402,F401
-from requests import bundle, check, cost, cover, dearest, hops, plan  # noqa: E402,F401
+from requests import bundle, check, cost, cover, dearest, dearest_result, hops, plan, result_times  # noqa: E402,F401
 
-LANDED = (1,)
+LANDED = (1, 2)
 requests.set_in_force(LANDED)
 
 
-def job(boards, wiring, unit, durations, links, wires=()):
-    """A job of plain steps. A wire has a board, another and the cost from the one to the other; a link two steps and a count."""
-    return Job(boards, wiring, unit, list(wires), [plain(duration) for duration in durations], list(links))
+def job(boards, wiring, unit, durations, links, wires=(), results=()):
+    """A job of plain steps. A wire has a board, another and the cost from the one to the other; a link two steps and a count; a
+    result a step and a count."""
+    return Job(boards, wiring, unit, list(wires), [plain(duration) for duration in durations], list(links), list(results))
 
 
-def wired(boards, costs, durations, links, unit=0):
+def wired(boards, costs, durations, links, unit=0, results=()):
     """A job with costs of its own, one for each pair in the order of the wires."""
     wires = [(*pair, each) for pair, each in zip(pairs_due(boards), costs, strict=True)]
-    return job(boards, 3, unit, durations, links, wires)
+    return job(boards, 3, unit, durations, links, wires, results)
+
+
+def last_steps(job):
+    """The steps with no successor: those that may have a result."""
+    sending = {start for start, _, _ in job.links}
+    return [step for step in range(len(job.steps)) if step not in sending]
 
 
 def number(data):

@@ -12,7 +12,8 @@ enum { FLAT = 0, CUBE = 1, RING = 2, WIRES = 3 };
 /* Room for a job's bytes, also of a job with a record too many, and for a plan's. */
 enum { FILE_ROOM = KELVRIST_JOB_BYTES + 64, PLAN_ROOM = KELVRIST_PLAN_BYTES + 64 };
 
-/* A job held as numbers, good or bad. With WIRES, costs[p][q] is that of the wire from p to q. */
+/* A job held as numbers, good or bad. With WIRES, costs[p][q] is that of the wire from p to q. The message count of task t's
+ * result is results[t], 0 where it has none. */
 struct edge {
     uint32_t from, to, count;
 };
@@ -23,6 +24,7 @@ struct job {
     size_t tasks, edges;
     uint32_t durations[KELVRIST_TASKS];
     struct edge edge[KELVRIST_EDGES];
+    uint32_t results[KELVRIST_TASKS];
 };
 
 /* The bytes of a job, and of a plan. */
@@ -47,6 +49,7 @@ void put_rack(struct file *file, uint32_t processors, uint32_t wiring, uint32_t 
 void put_wire(struct file *file, uint32_t from, uint32_t to, uint32_t cost);
 void put_step(struct file *file, uint32_t duration);
 void put_link(struct file *file, struct edge edge);
+void put_result(struct file *file, uint32_t task, uint32_t count);
 void put_end(struct file *file);
 void put_byte(struct file *file, uint32_t byte);
 struct file file_of(const struct job *job);
@@ -66,6 +69,7 @@ void want_check(const struct file *file, const struct plan *plan, uint32_t answe
 /* The groups. */
 void worked_cases(void);
 void costs_by_wires(void);
+void results_of_tasks(void);
 void larger_jobs(void);
 void plans_handed_in(void);
 void order_of_refusals(void);

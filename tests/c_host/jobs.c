@@ -45,6 +45,13 @@ void put_link(struct file *file, struct edge edge)
     put_number(file, edge.count, 2);
 }
 
+void put_result(struct file *file, uint32_t task, uint32_t count)
+{
+    put_byte(file, 6);
+    put_byte(file, task);
+    put_number(file, count, 2);
+}
+
 void put_end(struct file *file)
 {
     put_byte(file, 4);
@@ -63,6 +70,9 @@ struct file file_of(const struct job *job)
         put_step(&file, job->durations[t]);
     for (size_t e = 0; e < job->edges; e++)
         put_link(&file, job->edge[e]);
+    for (uint32_t t = 0; t < job->tasks; t++)
+        if (job->results[t] != 0)
+            put_result(&file, t, job->results[t]);
     put_end(&file);
     return file;
 }

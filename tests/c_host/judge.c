@@ -1,4 +1,4 @@
-/* Judges a plan by document 01 ("The checker", "Link costs") and document 02 §1, without the library. */
+/* Judges a plan by document 01 ("The checker", "Link costs") and document 02 §1, without the library. Results are not judged. */
 #include "host.h"
 
 static uint64_t hops(const struct job *job, uint32_t p, uint32_t q)

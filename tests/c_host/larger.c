@@ -1,5 +1,8 @@
-/* Larger jobs: each shape with each wiring, on 1, 5 and 16 processors, with three unit costs, or wires that are as dear. The
- * host's own judge judges their plans; where the placements can be told beforehand, they are held to that. */
+/* Larger jobs: each shape with each wiring, on 1, 5 and 16 processors, with three unit costs, or wires that are as dear; two in
+ * three have results. The host's own judge judges their plans; where the placements can be told beforehand, they are held to
+ * that. */
+#include <string.h>
+
 #include "host.h"
 
 static uint32_t state;
@@ -120,6 +123,35 @@ static void draw_costs(struct job *job)
             job->costs[p][q] = draw(most) - 1;
 }
 
+static int sends(const struct job *job, uint32_t task)
+{
+    for (size_t e = 0; e < job->edges; e++)
+        if (job->edge[e].from == task)
+            return 1;
+    return 0;
+}
+
+/* A result of each task that sends to no other, now and then of none. */
+static void draw_results(struct job *job)
+{
+    for (uint32_t t = 0; t < job->tasks; t++)
+        if (!sends(job, t) && draw(4) != 1)
+            job->results[t] = draw(1000);
+}
+
+/* Results move no task: the job without them has the same plan. */
+static void same_without_results(const struct job *job, const struct plan *plan)
+{
+    struct job bare = *job;
+    struct plan other = {.length = plan->length};
+
+    memset(bare.results, 0, sizeof bare.results);
+    struct file file = file_of(&bare);
+    want_plan(&file, bare.tasks, &other, 0);
+    if (memcmp(plan->bytes, other.bytes, plan->length) != 0)
+        fail("the job without its results has another plan");
+}
+
 static void one_job(const struct shape *shape, uint32_t processors, uint32_t wiring, uint32_t unit)
 {
     struct job job = {.processors = processors, .wiring = wiring, .unit = unit};
@@ -131,7 +163,11 @@ static void one_job(const struct shape *shape, uint32_t processors, uint32_t wir
         job.durations[t] = draw(unit == 0 ? 5 : 1000000);
     if (wiring == WIRES)
         draw_costs(&job);
+    if (unit != 2)
+        draw_results(&job);
     struct plan plan = planned(&job);
+    if (unit != 2)
+        same_without_results(&job, &plan);
     if (processors == 1)
         without_gap(&job, &plan);
     if (shape->make == chain)

@@ -12,6 +12,7 @@ static const struct group {
 } groups[] = {
     {"worked cases", worked_cases},
     {"costs by wires", costs_by_wires},
+    {"results of tasks", results_of_tasks},
     {"larger jobs", larger_jobs},
     {"plans handed in", plans_handed_in},
     {"order of refusals", order_of_refusals},

@@ -16,6 +16,11 @@ static const struct job on_cube = {
 static const struct job on_wires = {
     .processors = 3, .wiring = WIRES, .unit = 100, .costs = {{0, 2, 9}, {7, 0, 0}, {1, 250, 0}}, .tasks = 2,
     .durations = {5, 5}, .edges = 1, .edge = {{0, 1, 3}}};
+static const struct job delivers = {
+    .processors = 3, .wiring = RING, .unit = 100, .tasks = 2, .durations = {5, 5}, .results = {1, 1000}};
+static const struct job sends_and_delivers = {
+    .processors = 2, .wiring = FLAT, .unit = 2, .tasks = 2, .durations = {5, 5}, .edges = 1, .edge = {{0, 1, 1}},
+    .results = {0, 1000}};
 static const struct job longest = {
     .processors = 2, .wiring = FLAT, .unit = 100, .tasks = 2, .durations = {1000000, 1000000}, .edges = 1,
     .edge = {{0, 1, 1000}}};
@@ -78,6 +83,13 @@ static const struct handed_in plans[] = {
     {"wires, from 2 to 1", &on_wires, {{2, 0}, {1, 755}}, 0},
     {"wires, on one processor", &on_wires, {{2, 0}, {2, 5}}, 0},
     {"wires, processor 3 of 3", &on_wires, {{2, 0}, {3, 5}}, 10},
+    {"results, both at 0", &delivers, {{1, 0}, {2, 0}}, 0},
+    {"results that arrive after the latest start", &delivers, {{1, 600000000}, {2, 600000000}}, 0},
+    {"results, start 600,000,001", &delivers, {{1, 0}, {2, 600000001}}, 11},
+    {"results, an overlap", &delivers, {{2, 4}, {2, 0}}, 12},
+    {"results, start at the finish", &delivers, {{2, 5}, {2, 0}}, 0},
+    {"results, finish 5, start 6 elsewhere", &sends_and_delivers, {{0, 0}, {1, 6}}, 13},
+    {"results, finish 5, start 7 elsewhere", &sends_and_delivers, {{0, 0}, {1, 7}}, 0},
     {"the longest way, late", &longest, {{0, 0}, {1, 1099999}}, 13},
     {"the longest way", &longest, {{0, 0}, {1, 1100000}}, 0},
     {"sent after the latest start", &longest, {{0, 600000000}, {1, 600000000}}, 13},

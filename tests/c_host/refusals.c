@@ -67,6 +67,29 @@ static const struct {
     {"4 before 14, a wire", "01 02 03 02 05 01 00 fb", 4},
     {"4 before 14, a step", "01 02 03 02 02 00 00 00 00", 4},
     {"a byte after the end, with wires", "01 02 03 02 05 00 01 07 05 01 00 09 02 05 00 00 00 04 05", 8},
+    {"a result first", "06 00 01 00", 3},
+    {"a result with no step", "01 02 00 02 06 00 01 00", 3},
+    {"a result before the wires", "01 02 03 02 06 00 01 00", 3},
+    {"a result after the wires", "01 02 03 02 05 00 01 07 05 01 00 09 06 00 01 00", 3},
+    {"a step after a result", "01 02 00 02 02 05 00 00 00 06 00 01 00 02 05 00 00 00 04", 3},
+    {"a link after a result",
+     "01 02 00 02 02 05 00 00 00 02 05 00 00 00 06 01 01 00 03 00 01 01 00 04", 3},
+    {"a wire after a result", "01 02 03 02 05 00 01 07 05 01 00 09 02 05 00 00 00 06 00 01 00 05 00 01 07", 3},
+    {"a rack after a result", "01 02 00 02 02 05 00 00 00 06 00 01 00 01 02 00 02", 3},
+    {"a result that is cut", "01 02 00 02 02 05 00 00 00 06 00 01", 1},
+    {"no end record, with a result", "01 02 00 02 02 05 00 00 00 06 00 01 00", 1},
+    {"a result of no message", "01 02 00 02 02 05 00 00 00 06 00 00 00", 4},
+    {"a result of 1,001 messages", "01 02 00 02 02 05 00 00 00 06 00 e9 03", 4},
+    {"a result of no task", "01 02 00 02 02 05 00 00 00 06 01 01 00", 15},
+    {"a result of task 255", "01 02 00 02 02 05 00 00 00 06 ff 01 00", 15},
+    {"a result of a task that sends", "01 02 00 02 02 05 00 00 00 02 05 00 00 00 03 00 01 01 00 06 00 01 00 04", 15},
+    {"a result twice", "01 02 00 02 02 05 00 00 00 06 00 01 00 06 00 01 00", 15},
+    {"results that fall", "01 02 00 02 02 05 00 00 00 02 05 00 00 00 06 01 01 00 06 00 01 00", 15},
+    {"3 before 1, a result", "01 02 00 02 06", 3},
+    {"1 before 4, a result", "01 02 00 02 02 05 00 00 00 06 00 00", 1},
+    {"1 before 15, a result", "01 02 00 02 02 05 00 00 00 06 01 01", 1},
+    {"4 before 15, a result", "01 02 00 02 02 05 00 00 00 06 01 00 00", 4},
+    {"a byte after the end, with a result", "01 02 00 02 02 05 00 00 00 06 00 01 00 04 06", 8},
 };
 
 static int digit(char c)
@@ -118,7 +141,7 @@ static struct file many(size_t tasks, size_t edges)
     return file;
 }
 
-/* The greatest job. */
+/* The greatest job: its edges are from tasks 0 to 4, and each other task has a result. */
 static struct file greatest(void)
 {
     struct file file = {0};
@@ -129,8 +152,26 @@ static struct file greatest(void)
             if (p != q)
                 put_wire(&file, p, q, 250 - p);
     put_many(&file, 256, 1024);
+    for (uint32_t t = 5; t < 256; t++)
+        put_result(&file, t, 1 + t);
     put_end(&file);
     return file;
+}
+
+/* A result in place of the greatest job's end record, of which `length` bytes are there: it can only be of a task that has one
+ * already, and there is no 5 for results. */
+static void past_the_last(uint32_t count, size_t length, uint32_t answer)
+{
+    struct file file = greatest();
+
+    testing("a result of %u messages past the last, %zu bytes of it", count, length);
+    file.length--;
+    size_t due = file.length + length;
+    put_result(&file, 255, count);
+    put_end(&file);
+    if (due < file.length)
+        file.length = due;
+    want_refused(&file, answer);
 }
 
 void refused_jobs(void)
@@ -160,6 +201,14 @@ void refused_jobs(void)
     testing("a byte after the greatest job");
     put_byte(&file, 4);
     want_refused(&file, 8);
+    for (size_t length = 0; length < 4; length++)
+        past_the_last(length % 2 == 0 ? 1 : 0, length, 1);
+    for (size_t length = 4; length < 6; length++) {
+        past_the_last(0, length, 4);
+        past_the_last(1, length, 15);
+        past_the_last(1000, length, 15);
+        past_the_last(1001, length, 4);
+    }
 }
 
 /* Two tasks and an edge: each value at an end of its range, and next to it. */

@@ -28,8 +28,9 @@ import rules  # noqa: E402
 from differential import STDIN, case_files  # noqa: E402
 from jobs import some_file  # noqa: E402
 from vectors.dice import Dice  # noqa: E402
-from vectors.jobs import LONGEST, chain, greatest, greatest_values, greatest_wired, greatest_wired_values  # noqa: E402
-from vectors.records import END, link, rack, step, wire  # noqa: E402
+from vectors.jobs import LONGEST, chain, greatest, greatest_of_all, greatest_values, greatest_wired, greatest_wired_values  # noqa: E402
+from vectors.jobs import costs, tasks_only, with_results, with_some  # noqa: E402
+from vectors.records import END, link, rack, result, step, wire  # noqa: E402
 
 PROGRAM = TOP / "target" / "bin" / "plan"
 FOLDER = TOP / "target" / "program"
@@ -104,9 +105,12 @@ def worked():
 
 def large():
     """The greatest jobs and the greatest numbers."""
-    yield "the greatest values", greatest_wired_values()
+    yield "the greatest values", greatest_of_all([250] * 240, 1_000_000, 1000)
+    yield "the greatest values without results", greatest_wired_values()
     yield "the greatest values without wires", greatest_values()
     for number in range(3):
+        yield f"a greatest file, {number}", greatest_of_all(costs(Dice(number), 16), 7 + number, 1 + number)
+        yield f"a greatest job with some results, {number}", with_results(Dice(number), greatest_wired(Dice(number)))
         yield f"a greatest job, {number}", greatest_wired(Dice(number))
         yield f"a greatest job without wires, {number}", greatest(Dice(number))
     chained = [(a, b, 1000) for a, b in chain(None, 256)]
@@ -115,11 +119,16 @@ def large():
     yield "the dearest chain, wires", rules.wired(16, [250] * 240, [1_000_000] * 256, chained)
     yield "256 steps on one board", rules.job(1, 0, 100, [1_000_000] * 256, [])
     yield "256 steps on 16 boards", rules.job(16, 0, 100, list(range(1, 257)), [])
+    every = [(task, 1000) for task in range(256)]
+    for wiring, name in enumerate(("flat", "cube", "ring")):
+        yield f"256 results, {name}", rules.job(16, wiring, 100, list(range(1, 257)), [], results=every)
+    yield "256 results on one board", with_some(tasks_only(256, 1), every)
 
 
 def long(dice):
     """Inputs longer than any job, the last ones of some megabytes."""
-    good, most = rules.write(next(worked())[1]), rules.write(greatest_wired_values())
+    good, wired = rules.write(next(worked())[1]), rules.write(greatest_wired_values())
+    most = rules.write(greatest_of_all([250] * 240, 1_000_000, 1000))
     assert len(most) == LONGEST
     noise = bytes(dice.below(256) for _ in range(4096))
     for name, head in (("case A", good), ("the greatest job", most)):
@@ -127,8 +136,13 @@ def long(dice):
             if more > 0:
                 yield f"{name} and {more} bytes", head + (noise * (more // 4096 + 1))[:more]
     yield "the greatest job twice", most + most
-    yield "a link too many", most[:-1] + link(254, 255) + END
-    yield "a wire too many", most[: 4 + 4 * 240] + wire(15, 14) + most[4 + 4 * 240 :]
+    yield "a link too many", wired[:-1] + link(254, 255) + END
+    yield "a wire too many", wired[: 4 + 4 * 240] + wire(15, 14) + wired[4 + 4 * 240 :]
+    for name, more in (("a good result", result(255)), ("a result of count 0", result(255, 0)), ("one of count 1,001", result(255, 1001))):
+        for length in (1, 2, 3, 4):
+            yield f"{name} too many, {length} bytes of it", most[:-1] + more[:length]
+        yield f"{name} too many, and bytes", most[:-1] + more + noise
+    yield "a rack, a step and results, megabytes", rack() + step() + result(0) * 700_000
     yield "a rack and wires, megabytes", rack(2, 3) + (wire(0, 1) + wire(1, 0)) * 300_000
     yield "a rack and steps, megabytes", rack() + step() * 600_000
     yield "a rack, steps and links, megabytes", rack() + step() * 256 + link(0, 1) * 600_000

@@ -3,7 +3,8 @@ import rules
 from vectors.dice import near
 
 MOST_TASKS, MOST_EDGES = 256, 1024
-LONGEST, UNWIRED = 7365, 6405  # the bytes of the greatest file, and of the greatest without wires
+# the bytes of the greatest file, of the greatest without results, and of the greatest without wires too
+LONGEST, WIRED, UNWIRED = 8369, 7365, 6405
 SMALL = rules.job(2, 0, 2, [4, 3, 2], [(0, 2, 1), (1, 2, 3)])
 PAIRS = [(a, b) for a in range(256) for b in range(a + 1, 256)]
 
@@ -121,3 +122,23 @@ def greatest_wired(dice):
 def greatest_wired_values():
     job = greatest_values()
     return rules.wired(16, [250] * 240, job.durations, job.links, job.unit)
+
+
+# ---- results
+
+def with_some(job, results):
+    """The job with these results."""
+    return rules.job(job.boards, job.wiring, job.unit, job.durations, job.links, job.wires, results)
+
+
+def with_results(dice, job, most=1000):
+    """The job with results of one of the steps that may have one, of some or of all."""
+    last = rules.last_steps(job)
+    last = dice.some(last, dice.one_of([1, len(last), dice.between(1, len(last))]))
+    return with_some(job, list(zip(last, numbers(dice, most, len(last)))))
+
+
+def greatest_of_all(costs, duration=1, count=1):
+    """The job of the greatest file: 1,024 links from five steps, and a result of each other one."""
+    links = [(a, b, count) for a, b in PAIRS if a < 5][:1024]
+    return rules.wired(16, costs, [duration] * 256, links, results=[(task, count) for task in range(5, 256)])

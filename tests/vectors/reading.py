@@ -15,6 +15,8 @@ def read_line(data):
     words += ["tasks", *job.durations, "edges"]
     for link in job.links:
         words += link
+    for result in job.results:
+        words += ["result", *result]
     words += ["spare", 0, "same" if rules.write(job) == data else "differs"]
     return " ".join(map(str, words))
 

@@ -20,10 +20,14 @@ def wire(start, to, cost=7):
     return bytes([5, start, to, cost])
 
 
+def result(task, count=1):
+    return bytes([6, task]) + count.to_bytes(2, "little")
+
+
 def records(job):
     """The records of a job, also of one with values out of range."""
     return [rack(job.boards, job.wiring, job.unit), *(wire(*w) for w in job.wires), *map(step, job.durations),
-            *(link(*l) for l in job.links), END]
+            *(link(*l) for l in job.links), *(result(*r) for r in job.results), END]
 
 
 def damaged(dice, job):
@@ -37,7 +41,7 @@ def damaged(dice, job):
     if way == 0:
         return data[:i] + bytes([dice.below(256)]) + data[i + 1 :]
     if way == 1:
-        return data[:i] + bytes([dice.below(6)]) + data[i + 1 :]
+        return data[:i] + bytes([dice.below(8 if job.results else 6)]) + data[i + 1 :]
     if way == 2:
         return data[:i] + data[i + 1 :]
     if way == 3:
@@ -58,11 +62,15 @@ def damaged(dice, job):
 
 
 def out_of_range(dice, job):
-    """A copy of the job with one value, edge or wire altered, most often to one that is refused."""
-    new = rules.job(job.boards, job.wiring, job.unit, job.durations, job.links, job.wires)
+    """A copy of the job with one value, edge, wire or result altered, most often to one that is refused."""
+    new = rules.job(job.boards, job.wiring, job.unit, job.durations, job.links, job.wires, job.results)
     if new.wires and dice.below(2):
         i = dice.below(len(new.wires))
         new.wires[i] = altered_wire(dice, new, *new.wires[i])
+        return new
+    if new.results and dice.below(2):
+        i = dice.below(len(new.results))
+        new.results[i] = altered_result(dice, new, *new.results[i])
         return new
     way = dice.below(7)
     i = dice.below(len(new.steps))
@@ -92,4 +100,11 @@ def altered_wire(dice, job, start, to, cost):
     return dice.one_of([
         (start, to, dice.one_of([250, 251, 255])), (to, start, cost), (start, start, cost), (start, n, cost), (n, to, cost),
         (start, dice.below(n), cost), (dice.below(n), to, cost), dice.one_of(job.wires), (255, 255, cost),
+    ])
+
+
+def altered_result(dice, job, task, count):
+    return dice.one_of([
+        (task, dice.one_of([0, 1000, 1001, 65_535])), (dice.below(len(job.steps)), count), dice.one_of(job.results),
+        (len(job.steps) % 256, count), (dice.below(256), dice.one_of([0, count])),
     ])

@@ -1,7 +1,7 @@
 """Cases of wires (document 02 §1) in the job reader and the job writer."""
 import rules
 from vectors.dice import ALL_ONES
-from vectors.jobs import LONGEST, SMALL, distinct, greatest_wired, random_job, with_wires
+from vectors.jobs import SMALL, WIRED, distinct, greatest_wired, random_job, with_wires
 from vectors.reading import read
 from vectors.records import END, damaged, link, out_of_range, rack, step, wire
 from vectors.writing import write
@@ -135,9 +135,9 @@ def cut_reads(cases):
 
 
 def size_reads(cases, dice):
-    """The greatest file, and one byte more or less."""
+    """The greatest file without results, and one byte more or less."""
     data = rules.write(greatest_wired(dice))
-    assert len(data) == LONGEST
+    assert len(data) == WIRED
     read(cases, data)
     for more in (b"\x00", END, wire(0, 1)):
         read(cases, data + more)

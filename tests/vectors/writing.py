@@ -8,14 +8,16 @@ from vectors.records import out_of_range
 class Held:
     """A job held as numbers, its counts beside its arrays, and the output that is lent to the writer.
 
-    `costs` are those of the wires, 256 of them: from p to q at place 16p + q. A case that gives none has 0 everywhere.
+    `costs` are those of the wires, 256 of them: from p to q at place 16p + q. `counts` are those of the results, 256 of them by
+    task. A case that gives none has 0 everywhere.
     """
 
-    def __init__(self, job, tasks=None, edges=None, room=None, fill=0xEE, spare=(7, 5, 3, 9), costs=None):
-        self.job, self.fill, self.spare, self.costs = job, fill, spare, costs
+    def __init__(self, job, tasks=None, edges=None, room=None, fill=0xEE, spare=(7, 5, 3, 9), costs=None, counts=None):
+        self.job, self.fill, self.spare, self.counts = job, fill, spare, counts
+        self.costs = bytes(256) if counts and not costs else costs
         self.tasks = len(job.steps) if tasks is None else tasks
         self.edges = len(job.links) if edges is None else edges
-        need = 5 + 5 * (self.tasks + self.edges) + (4 * len(self.wires()) if costs else 0)
+        need = 5 + 5 * (self.tasks + self.edges) + (4 * len(self.wires()) if self.costs else 0) + 4 * len(self.results())
         self.room = need if room is None else room
 
     def wires(self):
@@ -23,13 +25,17 @@ class Held:
         costs, n = self.costs or bytes(256), self.job.boards
         return [(p, q, costs[16 * p + q]) for p, q in rules.pairs_due(n)] if self.job.wiring == 3 and n <= 16 else []
 
+    def results(self):
+        """The results that the counts stand for: places from the number of tasks on are spare."""
+        return [(task, count) for task, count in enumerate(self.counts or ()) if count and task < self.tasks]
+
     def judged(self):
         """The job that the counts and the arrays stand for. A count above what the arrays hold stands for one place more."""
         duration, *link = self.spare
         steps = self.job.durations + [duration] * 257
         links = self.job.links + [tuple(link)] * 1025
-        job = self.job
-        return rules.job(job.boards, job.wiring, job.unit, steps[: min(self.tasks, 257)], links[: min(self.edges, 1025)], self.wires())
+        steps, links, job = steps[: min(self.tasks, 257)], links[: min(self.edges, 1025)], self.job
+        return rules.job(job.boards, job.wiring, job.unit, steps, links, self.wires(), self.results())
 
     def line(self):
         try:
@@ -41,10 +47,14 @@ class Held:
         out = data + bytes([self.fill]) * (self.room - len(data))
         return f"{answer} [{out.hex()}]"
 
+    def kind(self):
+        return b"u" if self.counts else b"v" if self.costs else b"w"
+
     def body(self):
         job = self.job
         duration, start, to, count = self.spare
-        body = bytes(self.costs or b"") + self.tasks.to_bytes(8, "little") + self.edges.to_bytes(8, "little")
+        body = b"".join(each.to_bytes(2, "little") for each in self.counts or ()) + bytes(self.costs or b"")
+        body += self.tasks.to_bytes(8, "little") + self.edges.to_bytes(8, "little")
         body += bytes([job.boards, job.wiring, job.unit, self.fill])
         body += self.room.to_bytes(2, "little") + len(job.steps).to_bytes(2, "little")
         body += duration.to_bytes(4, "little") + bytes([start, to]) + count.to_bytes(2, "little")
@@ -57,7 +67,7 @@ class Held:
 
 def write(cases, job, **given):
     held = Held(job, **given)
-    cases.add(b"v" if held.costs else b"w", held.body(), held.line())
+    cases.add(held.kind(), held.body(), held.line())
 
 
 def table_writes(cases):

@@ -25,7 +25,7 @@ abbrev pub writtenNumber : Written → ℕ
 writtenNumber (Length n) = 0
 writtenNumber (NotWritten k) = k
 
--- places counted through the durations, from, to, the counts and the wires: the first that is past each of these arrays
+-- places counted through the durations, from, to, the counts, the wires and the results: the first that is past each of these arrays
 abbrev pub pastDurations : ℕ
 pastDurations = mostTasks
 
@@ -41,6 +41,9 @@ pastCounts = pastTo + mostEdges
 abbrev pub pastWires : ℕ
 pastWires = pastCounts + mostProcessors * mostProcessors
 
+abbrev pub pastResults : ℕ
+pastResults = pastWires + mostTasks
+
 -- the number at a place; past the arrays the verdict's number
 unfoldable pub numberAt : Reading → ℕ → ℕ
 numberAt r place =
@@ -49,7 +52,8 @@ numberAt r place =
     (pick (ltb place pastTo) (getD (r .arrays .to) (place - pastFrom) 0)
     (pick (ltb place pastCounts) (getD (r .arrays .counts) (place - pastTo) 0)
     (pick (ltb place pastWires) (getD (r .arrays .wires) (place - pastCounts) 0)
-    (verdictNumber (r .verdict))))))
+    (pick (ltb place pastResults) (getD (r .arrays .results) (place - pastWires) 0)
+    (verdictNumber (r .verdict)))))))
 
 -- the first m tasks and l edges of what was read
 unfoldable pub heldIn : Reading → ℕ → ℕ → Job

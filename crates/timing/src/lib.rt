@@ -51,6 +51,14 @@ fn cost(wires: &[u8; 256], place: usize) -> u32
     base::wide8(wires[place])
 }
 
+// The message count of the result of the task at a place.
+fn delivery(results: &[u16; 256], place: usize) -> u32
+    requires { ⌜ place < 256 ⌝ }
+    ensures { λ r. ⌜ r ≡ getD (now (results .entry)) place 0 ⌝ }
+{
+    base::wide16(results[place])
+}
+
 // Reads a file, and returns one number of what was read: which one is not known before, so that every store is due.
 #[no_mangle]
 pub extern "C" fn timing_read(file: &[u8], place: usize) -> u32
@@ -71,6 +79,9 @@ pub extern "C" fn timing_read(file: &[u8], place: usize) -> u32
     }
     if place < 3584 {
         return cost(&r.arrays.wires, place - 3328);
+    }
+    if place < 3840 {
+        return delivery(&r.arrays.results, place - 3584);
     }
     let verdict = r.verdict;
     base::wide8(job::number(verdict))

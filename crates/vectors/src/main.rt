@@ -3,10 +3,11 @@
 //
 // A case is a byte that says what it is for, the length of its body in 2 bytes, and the body. Numbers are little-endian.
 //
-//   r  the job reader                      c  the checker
-//   w  the job writer                      s  the station's planner
-//   v  the job writer, with wires          b  the station's checker
-//   p  the planner and the cover call      t  the listing
+//   r  the job reader                           c  the checker
+//   w  the job writer                           s  the station's planner
+//   v  the job writer, with wires               b  the station's checker
+//   u  the job writer, with results and wires   t  the listing
+//   p  the planner and the cover call
 //
 // The body of 'r' is a file; the others' are in the files that run them.
 mod checking;
@@ -29,6 +30,9 @@ fn run_job(what: u8, body: &[u8]) {
     }
     if what == b'v' {
         writing::wired_case(body);
+    }
+    if what == b'u' {
+        writing::result_case(body);
     }
     if what == b't' {
         text::case(body);

@@ -95,6 +95,26 @@ fn show_edges(from: &[u8; 1024], to: &[u8; 1024], counts: &[u16; 1024], edges: u
     }
 }
 
+fn show_result(task: usize, count: u16) {
+    show::text(b" result");
+    show::word(number::wide(task));
+    show::word(number::wide16(count));
+}
+
+// The results of the first `tasks` tasks, nothing where a task has none.
+fn show_results(results: &[u16; 256], tasks: usize) {
+    let mut i: usize = 0;
+    while i < 256 {
+        if tasks <= i {
+            return;
+        }
+        if results[i] != 0 {
+            show_result(i, results[i]);
+        }
+        i += 1;
+    }
+}
+
 // Whether the places of the wires that are of no pair below `n` are 0.
 fn are_wires_clear(wires: &[u8; 256], n: usize) -> bool {
     let mut i: usize = 0;
@@ -139,19 +159,38 @@ fn are_edges_clear(from: &[u8; 1024], to: &[u8; 1024], counts: &[u16; 1024], edg
     true
 }
 
-fn show_spare(are_wires_clear: bool, are_tasks_clear: bool, are_edges_clear: bool) {
+// Whether the results from place `tasks` on are 0.
+fn are_results_clear(results: &[u16; 256], tasks: usize) -> bool {
+    let mut i = tasks;
+    while i < 256 {
+        if results[i] != 0 {
+            return false;
+        }
+        i += 1;
+    }
+    true
+}
+
+fn show_spare(
+    are_wires_clear: bool,
+    are_tasks_clear: bool,
+    are_edges_clear: bool,
+    are_results_clear: bool,
+) {
     if are_wires_clear {
         if are_tasks_clear {
             if are_edges_clear {
-                show::text(b" spare 0");
-                return;
+                if are_results_clear {
+                    show::text(b" spare 0");
+                    return;
+                }
             }
         }
     }
     show::text(b" spare set");
 }
 
-// The wires, tasks and edges, and whether all other places are 0.
+// The wires, tasks, edges and results, and whether all other places are 0.
 fn show_job<'a>(
     platform: Platform,
     tasks: usize,
@@ -161,16 +200,19 @@ fn show_job<'a>(
     to: &'a [u8; 1024],
     counts: &'a [u16; 1024],
     wires: &'a [u8; 256],
+    results: &'a [u16; 256],
 ) {
     show_wires(wires, platform);
     show::text(b" tasks");
     show_tasks(durations, tasks);
     show::text(b" edges");
     show_edges(from, to, counts, edges);
+    show_results(results, tasks);
     show_spare(
         are_wires_clear(wires, wired(platform)),
         are_tasks_clear(durations, tasks),
         are_edges_clear(from, to, counts, edges),
+        are_results_clear(results, tasks),
     );
 }
 
@@ -183,7 +225,7 @@ fn is_same(file: &[u8], out: &[u8], written: Written) -> bool {
 
 // Writes the job again, and says whether that gives the same bytes.
 fn show_again(file: &[u8], platform: Platform, tasks: usize, edges: usize, arrays: Arrays) {
-    let mut out = [238u8; 8192];
+    let mut out = [238u8; 8400];
     let written = job::write(platform, tasks, edges, arrays, &mut out);
     if is_same(file, &out, written) {
         show::text(b" same\n");
@@ -208,6 +250,7 @@ pub fn case(file: &[u8]) {
                 &r.arrays.to,
                 &r.arrays.counts,
                 &r.arrays.wires,
+                &r.arrays.results,
             );
             show_again(file, r.platform, tasks, edges, r.arrays);
         }
@@ -222,6 +265,7 @@ pub fn case(file: &[u8]) {
                 &r.arrays.to,
                 &r.arrays.counts,
                 &r.arrays.wires,
+                &r.arrays.results,
             );
             show::text(b"\n");
         }

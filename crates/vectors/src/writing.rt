@@ -6,8 +6,8 @@
 //  17  topology                  24  fill of the durations (4)      32  the durations given (4 each), then
 //  18  unit cost                                                        edges: from, to, count (4 each)
 //
-// Places of the arrays past those that are given hold the fill. A case with wires has all 256 places of theirs before that; in one
-// without they are 0.
+// Places of the arrays past those that are given hold the fill. A case with wires has all 256 places of theirs before that, one with
+// results all 256 of these (2 each) and then those of the wires; in a case without they are 0.
 use crate::number;
 use crate::show;
 use job::Arrays;
@@ -22,6 +22,16 @@ fn put_wires(body: &[u8], wires: &mut [u8; 256])
     let mut i: usize = 0;
     while i < 256 {
         wires[i] = body[i];
+        i += 1;
+    }
+}
+
+fn put_results(body: &[u8], results: &mut [u16; 256])
+    requires { ⌜ 512 ≤ length (now body) ⌝ }
+{
+    let mut i: usize = 0;
+    while i < 256 {
+        results[i] = number::two(body, 2 * i) as u16;
         i += 1;
     }
 }
@@ -92,14 +102,14 @@ fn write(body: &[u8], room: usize, arrays: Arrays, out: &mut [u8])
     show::text(b"]\n");
 }
 
-// Runs the case of a job held as numbers, with these wires.
-fn held(body: &[u8], wires: [u8; 256]) {
+// Runs the case of a job held as numbers, with these wires and results.
+fn held(body: &[u8], wires: [u8; 256], results: [u16; 256]) {
     if body.len() < 32 {
         return;
     }
     let room = number::two(body, 20) as usize;
     let given = number::two(body, 22) as usize;
-    if 8192 < room {
+    if 8400 < room {
         return;
     }
     if 256 < given {
@@ -114,19 +124,20 @@ fn held(body: &[u8], wires: [u8; 256]) {
     let mut counts = [number::two(body, 30) as u16; 1024];
     put_durations(body, given, &mut durations);
     put_edges(body, 32 + 4 * given, &mut from, &mut to, &mut counts);
-    let mut out = [body[19]; 8192];
+    let mut out = [body[19]; 8400];
     let arrays = Arrays {
         durations,
         from,
         to,
         counts,
         wires,
+        results,
     };
     write(body, room, arrays, &mut out);
 }
 
 pub fn case(body: &[u8]) {
-    held(body, [0u8; 256]);
+    held(body, [0u8; 256], [0u16; 256]);
 }
 
 pub fn wired_case(body: &[u8]) {
@@ -135,5 +146,16 @@ pub fn wired_case(body: &[u8]) {
     }
     let mut wires = [0u8; 256];
     put_wires(body, &mut wires);
-    held(&body[256..], wires);
+    held(&body[256..], wires, [0u16; 256]);
+}
+
+pub fn result_case(body: &[u8]) {
+    if body.len() < 768 {
+        return;
+    }
+    let mut results = [0u16; 256];
+    let mut wires = [0u8; 256];
+    put_results(body, &mut results);
+    put_wires(&body[512..], &mut wires);
+    held(&body[768..], wires, results);
 }

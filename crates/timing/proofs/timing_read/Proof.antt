@@ -6,7 +6,7 @@ use borrow.Author.Tests.{lt-ltb, le-ltb}
 use lib.ListN.{getD}
 use Rattle.job.specs.declared.Reading.{Reading}
 use Rattle.job.specs.Read.{verdictNumber}
-use Rattle.timing.specs.Timing.{pastDurations, pastFrom, pastTo, pastCounts, pastWires, numberAt}
+use Rattle.timing.specs.Timing.{pastDurations, pastFrom, pastTo, pastCounts, pastWires, pastResults, numberAt}
 use Rattle.timing.proofs.timing_read.Statement.{statement}
 use Rattle.timing.proofs.timing_read.Tie as tie
 
@@ -33,10 +33,17 @@ module _ (x r : Reading) (e : x ≡ r) (i : ℕ) where
   unfolding numberAt
   in-wires v g a b d f h = rw (← e) (simp (le-ltb _ _ a, le-ltb _ _ b, le-ltb _ _ d, le-ltb _ _ f, lt-ltb _ _ h) g)
 
-  past : (v : ℕ) → v ≡ verdictNumber (x .verdict) → pastDurations ≤ i → pastFrom ≤ i → pastTo ≤ i → pastCounts ≤ i → pastWires ≤ i
-      → v ≡ numberAt r i
+  in-results : (v : ℕ) → v ≡ getD (x .arrays .results) (i - pastWires) 0 → pastDurations ≤ i → pastFrom ≤ i → pastTo ≤ i → pastCounts ≤ i
+      → pastWires ≤ i → i < pastResults → v ≡ numberAt r i
   unfolding numberAt
-  past v g a b d f h = rw (← e) (simp (le-ltb _ _ a, le-ltb _ _ b, le-ltb _ _ d, le-ltb _ _ f, le-ltb _ _ h) g)
+  in-results v g a b d f k h =
+      rw (← e) (simp (le-ltb _ _ a, le-ltb _ _ b, le-ltb _ _ d, le-ltb _ _ f, le-ltb _ _ k, lt-ltb _ _ h) g)
+
+  past : (v : ℕ) → v ≡ verdictNumber (x .verdict) → pastDurations ≤ i → pastFrom ≤ i → pastTo ≤ i → pastCounts ≤ i → pastWires ≤ i
+      → pastResults ≤ i → v ≡ numberAt r i
+  unfolding numberAt
+  past v g a b d f k h =
+      rw (← e) (simp (le-ltb _ _ a, le-ltb _ _ b, le-ltb _ _ d, le-ltb _ _ f, le-ltb _ _ k, le-ltb _ _ h) g)
 
 read-requires : tie.Need-read-requires
 read-requires c κs = search needs
@@ -93,21 +100,36 @@ returns-5 c =
     in-wires _ _ (at-if1 .before .read .ensures) _ _ (c .cost .ensures)
     (at-if1 .if1 .left) (at-if2 .if2 .left) (at-if3 .if3 .left) (at-if4 .if4 .left) (at-if5 .if5 .taken)
 
+delivery-requires : tie.Need-delivery-requires
+delivery-requires c κs = search needs
+
+returns-6 : tie.Need-returns-6
+returns-6 c =
+    let at-if6 = c .before .before .before in
+    let at-if5 = at-if6 .before in
+    let at-if4 = at-if5 .before in
+    let at-if3 = at-if4 .before in
+    let at-if2 = at-if3 .before in
+    let at-if1 = at-if2 .before in
+    in-results _ _ (at-if1 .before .read .ensures) _ _ (c .delivery .ensures)
+    (at-if1 .if1 .left) (at-if2 .if2 .left) (at-if3 .if3 .left) (at-if4 .if4 .left) (at-if5 .if5 .left) (at-if6 .if6 .taken)
+
 number-requires : tie.Need-number-requires
 number-requires c κs = search needs
 
 wide8-requires : tie.Need-wide8-requires
 wide8-requires c κs = search needs
 
-returns-6 : tie.Need-returns-6
-returns-6 c =
-    let at-if5 = c .before .before in
+returns-7 : tie.Need-returns-7
+returns-7 c =
+    let at-if6 = c .before .before in
+    let at-if5 = at-if6 .before in
     let at-if4 = at-if5 .before in
     let at-if3 = at-if4 .before in
     let at-if2 = at-if3 .before in
     let at-if1 = at-if2 .before in
     past _ _ (at-if1 .before .read .ensures) _ _ (c .wide8 .ensures .0 ∙ c .before .number .ensures)
-    (at-if1 .if1 .left) (at-if2 .if2 .left) (at-if3 .if3 .left) (at-if4 .if4 .left) (at-if5 .if5 .left)
+    (at-if1 .if1 .left) (at-if2 .if2 .left) (at-if3 .if3 .left) (at-if4 .if4 .left) (at-if5 .if5 .left) (at-if6 .if6 .left)
 
 pub timing-read-spec : {M : Type 1} → statement M
 timing-read-spec =
@@ -124,6 +146,8 @@ timing-read-spec =
     returns-4
     cost-requires
     returns-5
+    delivery-requires
+    returns-6
     number-requires
     wide8-requires
-    returns-6)
+    returns-7)
