@@ -1,7 +1,9 @@
-"""The drawing of a plan: a row a board, a box a step, a line a message bundle between boards, the cover's chain in orange."""
+"""The drawing of a plan: a row a board, a box a step, a line a message bundle between boards, the cover's chain in orange, results on
+their way to board 0 in green."""
 from html import escape
 
 from kelvrist.jobfile import OWN, WIRINGS
+from kelvrist.results import arrivals
 from kelvrist.walk import bundle_time
 
 LEFT, RIGHT = 78, 44
@@ -22,6 +24,9 @@ text { font: 12px system-ui, -apple-system, 'Segoe UI', 'DejaVu Sans', Arial, sa
 .link { fill: none; stroke: #c2410c; stroke-width: 2.4; }
 .reckoned { fill: none; stroke: #c2410c; stroke-width: 1.8; stroke-dasharray: 5 4; }
 .there { fill: #ffffff; stroke: #c2410c; stroke-width: 1.8; }
+.result { fill: none; stroke: #1a7f37; stroke-width: 1; }
+.result.last { stroke-width: 2.4; }
+.gate { fill: #1a7f37; stroke: #ffffff; stroke-width: 1; }
 """
 
 
@@ -63,6 +68,7 @@ class Chart:
 
     def __init__(self, listing, job=None, moves=None):
         self.listing, self.steps, self.job, self.moves = listing, listing.steps, job, moves or []
+        self.results = arrivals(job, self.steps) if job else []
         n = listing.boards
         self.box, self.pitch = (34, 54) if n <= 5 else (28, 46) if n <= 9 else (22, 38)
         most = max(sum(row.board == p for row in self.steps) for p in range(n))
@@ -164,11 +170,26 @@ class Chart:
             if whole:
                 yield tag("circle", title, cls="there", cx=reach[0], cy=reach[1], r=4)
 
+    def delivered(self):
+        """Each result on its way to board 0, and a mark on that board's row where it is there; one that makes the end stands out."""
+        for result in self.results:
+            last = " last" if result.there == self.listing.end else ""
+            title = (f"result of step {result.step}: {some(result.messages, 'message')}, from board {result.board} at {result.leaves} "
+                     f"to board 0 at {result.there}")
+            x, y = self.x(result.there), self.y(0) + self.box
+            if result.board != 0:
+                yield tag("path", title, cls="result" + last, d=path((self.x(result.leaves), self.y(result.board)), (x, y)))
+            yield tag("path", title, cls="gate", d=path((x - 5, y), (x, y - 6), (x + 5, y), (x, y + 6)) + " Z")
+
     def captions(self):
         """The lines above the plan, each with its class."""
         listing = self.listing
-        yield "title", f"end {listing.end:,}   cover {listing.cover:,}   dearest {listing.dearest:,}".replace("   ", " \u00a0 ")
-        yield "note", f"{some(listing.boards, 'board')}{self.rack_words()}; {some(len(self.steps), 'step')}, {some(listing.links, 'link')}"
+        title = f"end {listing.end:,}   cover {listing.cover:,}   dearest {listing.dearest:,}"
+        if self.results:
+            title += f"   dearest result {max(result.time for result in self.results):,}"
+        yield "title", title.replace("   ", " \u00a0 ")
+        counts = [some(len(self.steps), "step"), some(listing.links, "link")] + [some(len(self.results), "result")] * bool(self.results)
+        yield "note", f"{some(listing.boards, 'board')}{self.rack_words()}; {', '.join(counts)}"
         if not self.job:
             return
         total = sum(move.time for move in self.moves)
@@ -199,13 +220,20 @@ class Chart:
 
     def legend(self):
         """What stands for what."""
-        x, y = float(LEFT), float(self.bottom + 46)
-        for cls, text in self.legend_words():
+        for x, y, cls, text in self.legend_places():
             if cls.startswith("step"):
                 yield tag("rect", cls=cls, x=x, y=y - 11, width=22, height=14, rx=3)
             else:
                 yield tag("path", cls=cls, d=path((x, y - 4), (x + 22, y - 4)))
             yield tag("text", cls="note", x=x + 30, y=y, text=text)
+
+    def legend_places(self):
+        """Where the words of the legend stand: side by side, and where they do not fit on one line, on a second."""
+        x, y = float(LEFT), float(self.bottom + 46)
+        for cls, text in self.legend_words():
+            if x + 30 + LETTER * len(text) > LEFT + self.width + RIGHT:
+                x, y = float(LEFT), y + 22
+            yield x, y, cls, text
             x += 30 + LETTER * len(text) + 24
 
     def legend_words(self):
@@ -217,15 +245,17 @@ class Chart:
             yield "link", "link of the chain"
         if any(self.reckoned(move) for move in self.moves):
             yield "reckoned", "its time to the idle board"
+        if self.results:
+            yield "result", "result to board 0"
         yield "end", "end"
 
     def svg(self):
         """The whole drawing."""
-        width, height = LEFT + self.width + RIGHT, self.bottom + 64
+        width, height = LEFT + self.width + RIGHT, int(max(y for _, y, _, _ in self.legend_places())) + 18
         lines = [f'<svg xmlns="http://www.w3.org/2000/svg" width="{width}" height="{height}" viewBox="0 0 {width} {height}" role="img" '
                  f'aria-label="A plan of {len(self.steps)} steps on {self.listing.boards} boards">', f"<style>{STYLE}</style>"]
         lines.append(tag("rect", x="0.5", y="0.5", width=width - 1, height=height - 1, rx=8, fill="#ffffff", stroke="#d0d7de"))
         lines += [tag("text", cls=cls, x=20, y=32 + 22 * at, text=text) for at, (cls, text) in enumerate(self.captions())]
-        for part in (self.rows, self.axis, self.messages, self.boxes, self.walked, self.labels, self.legend):
+        for part in (self.rows, self.axis, self.messages, self.boxes, self.walked, self.delivered, self.labels, self.legend):
             lines += part()
         return "\n".join(lines) + "\n</svg>\n"

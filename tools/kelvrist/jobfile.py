@@ -16,11 +16,13 @@ MEANING = {
     7: "a link not above the one before",
     8: "bytes after the end record",
     14: "a wire that is not the next pair due or comes past the last, or a step before all pairs stand",
+    15: "a result for a step that is absent, has a successor or is out of order",
 }
 
 
 class Value(NamedTuple):
-    """A value of a record: its name, the bytes that hold it, and its range (the ends of a wire and of a link have rules of their own)."""
+    """A value of a record: its name, the bytes that hold it, and its range (the boards of a wire and the steps of a link or a result have
+    rules of their own)."""
     name: str
     width: int
     low: int
@@ -33,9 +35,10 @@ RECORDS = {
     "wire": (Value("from", 1, 0), Value("to", 1, 0), Value("cost", 1, 0, 250)),
     "step": (Value("duration", 4, 1, 1_000_000),),
     "link": (Value("from", 1, 0), Value("to", 1, 0), Value("messages", 2, 1, 1000)),
+    "result": (Value("step", 1, 0), Value("messages", 2, 1, 1000)),
     "end": (),
 }
-KINDS = {"rack": 1, "step": 2, "link": 3, "end": 4, "wire": 5}
+KINDS = {"rack": 1, "step": 2, "link": 3, "end": 4, "wire": 5, "result": 6}
 
 
 class Refused(Exception):
@@ -47,11 +50,11 @@ class Refused(Exception):
 
 
 class Job:
-    """A rack (boards, wiring, cost), wires (from board, to board, cost), steps (their durations) and links (from, to, messages), taken
-    record by record."""
+    """A rack (boards, wiring, cost), wires (from board, to board, cost), steps (their durations), links (from, to, messages) and results
+    (step, messages), taken record by record."""
 
     def __init__(self):
-        self.rack, self.wires, self.steps, self.links = None, [], [], []
+        self.rack, self.wires, self.steps, self.links, self.results = None, [], [], [], []
 
     def due(self):
         """The pair of boards whose wire is due next; none where all stand or the wiring has no wires."""
@@ -69,18 +72,21 @@ class Job:
             raise Refused(3, f"a wire needs a rack of wiring {WIRINGS[OWN]}, and this one's is {WIRINGS[self.rack[1]]}")
         if name == "wire" and self.steps:
             raise Refused(3, "wires come before steps")
-        if not self.steps and name in ("link", "end"):
+        if not self.steps and name in ("link", "result", "end"):
             first = "wire {} to {}".format(*self.due()) if self.due() else "a step"
             raise Refused(3, f"{first} must come before the {name}")
         if self.links and name == "step":
             raise Refused(3, "steps come before links")
+        if self.results and name in ("step", "link"):
+            raise Refused(3, f"{name}s come before results")
         if name == "step" and len(self.steps) == MOST_STEPS:
             raise Refused(5, f"a job has at most {MOST_STEPS} steps")
         if name == "link" and len(self.links) == MOST_LINKS:
             raise Refused(5, f"a job has at most {MOST_LINKS} links")
 
     def add(self, name, numbers):
-        """Takes a record that is expected; refuses a value out of range, and a wire, step or link that does not fit those before."""
+        """Takes a record that is expected; refuses a value out of range, and a wire, step, link or result that does not fit those
+        before."""
         for value, number in zip(RECORDS[name], numbers):
             if value.high is not None and not value.low <= number <= value.high:
                 raise Refused(4, f"{value.name} {number} is not {value.low} to {value.high}")
@@ -96,6 +102,9 @@ class Job:
         elif name == "link":
             self.judge_link(*numbers[:2])
             self.links.append(tuple(numbers))
+        elif name == "result":
+            self.judge_result(numbers[0])
+            self.results.append(tuple(numbers))
 
     def judge_wire(self, sender, to):
         """Refuses a wire that is not the next pair due."""
@@ -116,6 +125,16 @@ class Job:
             before = "{} to {}".format(*self.links[-1])
             raise Refused(7, f"link {sender} to {to}: links rise by from, then by to, and the one before is {before}")
 
+    def judge_result(self, step):
+        """Refuses a result by its step."""
+        if step >= len(self.steps):
+            raise Refused(15, f"result of step {step}: the last step is {len(self.steps) - 1}")
+        to = next((link[1] for link in self.links if link[0] == step), None)
+        if to is not None:
+            raise Refused(15, f"result of step {step}: it sends to step {to}, and only a step that sends to none has a result")
+        if self.results and step <= self.results[-1][0]:
+            raise Refused(15, f"result of step {step}: results rise by step, and the one before is of step {self.results[-1][0]}")
+
     def records(self):
         """The records in the order of the file, each as a name and its numbers."""
         yield "rack", self.rack
@@ -125,6 +144,8 @@ class Job:
             yield "step", (duration,)
         for link in self.links:
             yield "link", link
+        for result in self.results:
+            yield "result", result
         yield "end", ()
 
 

@@ -69,12 +69,13 @@ def job_of(text):
 def text_of(job):
     """The text of a job, its steps numbered in comments."""
     boards, wiring, cost = job.rack
-    wires = " wire: from, to, cost;" if job.wires else ""
-    lines = [f"# rack: boards, wiring, unit cost;{wires} step: duration; link: from, to, messages"]
+    wires, results = " wire: from, to, cost;" if job.wires else "", "; result: step, messages" if job.results else ""
+    lines = [f"# rack: boards, wiring, unit cost;{wires} step: duration; link: from, to, messages{results}"]
     lines += [f"rack {boards} {WIRINGS[wiring]} {cost}"]
     lines += ["wire {} {} {}".format(*wire) for wire in job.wires]
     lines += [f"step {duration:<12} # {at}" for at, duration in enumerate(job.steps)]
     lines += ["link {} {} {}".format(*link) for link in job.links]
+    lines += ["result {} {}".format(*result) for result in job.results]
     return "\n".join(lines) + "\n"
 
 

@@ -4,6 +4,7 @@ from typing import NamedTuple
 
 from kelvrist.inout import Trouble
 from kelvrist.jobfile import MEANING, MOST_STEPS
+from kelvrist.results import end as end_of
 
 NUMBER = "(0|[1-9][0-9]{0,9})"
 
@@ -61,13 +62,13 @@ def read(data):
                                     for i, word in enumerate(("end", "cover", "dearest")))
     if lines[count + 4 :] != [""]:
         raise Trouble("this is no plan's listing: the line `dearest` and its line feed should be the last")
-    if end != max(row.finish for row in steps):
-        raise Trouble(f"this is no plan's listing: it ends at {end}, the last finish is {max(row.finish for row in steps)}")
+    if end < max(row.finish for row in steps):
+        raise Trouble(f"this is no plan's listing: it ends at {end}, before the last finish, {max(row.finish for row in steps)}")
     return Listing(boards, links, steps, end, cover, dearest)
 
 
 def hold_to(listing, job):
-    """Sees that a listing is of a job: as many boards, steps and links, and each step as long."""
+    """Sees that a listing is of a job: as many boards, steps and links, each step as long, and the end where its results make it."""
     told = (listing.boards, len(listing.steps), listing.links)
     due = (job.rack[0], len(job.steps), len(job.links))
     if told != due:
@@ -75,3 +76,6 @@ def hold_to(listing, job):
     for row, duration in zip(listing.steps, job.steps):
         if row.finish - row.start != duration:
             raise Trouble(f"the listing is of another job: step {row.step} takes {row.finish - row.start} ticks, in the job {duration}")
+    due = end_of(job, listing.steps)
+    if listing.end != due:
+        raise Trouble(f"the listing is of another job: it ends at {listing.end}, by the job's steps and results it ends at {due}")
