@@ -31,7 +31,7 @@ check: has-rt
 bench: has-rt has-cc has-objcopy has-rustc has-python3 $(libraries:target/staticlib/%=target/placed/%)
 	@rustc --edition 2021 -O -C target-cpu=x86-64 -C codegen-units=1 -C llvm-args=-align-all-functions=6 \
 		-L native=target/placed -l static=timing -l static=kelvrist -o target/bench bench/main.rs
-	@target/bench crates/vectors/stdin
+	@target/bench crates/vectors
 
 target/placed/%.a: target/staticlib/%.a bench/place
 	@mkdir -p target/placed

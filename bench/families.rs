@@ -12,12 +12,13 @@ const JOBS: usize = 16;
 type Shape = Vec<(usize, usize)>;
 
 /// A job as numbers: processors, topology and unit cost; under topology 3 the costs of its wires, by from, then by to; durations;
-/// edges as from, to and count.
+/// edges as from, to and count; results as task and count.
 pub struct Job {
     pub platform: [usize; 3],
     pub wires: Vec<usize>,
     pub durations: Vec<usize>,
     pub edges: Vec<(usize, usize, usize)>,
+    pub results: Vec<(usize, usize)>,
 }
 
 impl Job {
@@ -34,6 +35,10 @@ impl Job {
         }
         for (from, to, count) in self.edges {
             file.extend([3, from as u8, to as u8]);
+            file.extend((count as u16).to_le_bytes());
+        }
+        for (task, count) in self.results {
+            file.extend([6, task as u8]);
             file.extend((count as u16).to_le_bytes());
         }
         file.push(4);
@@ -54,23 +59,49 @@ pub fn some_wires(dice: &mut Dice, platform: [usize; 3], most: usize) -> Vec<usi
     pairs(n).map(|_| dice.below(most + 1)).collect()
 }
 
+/// A result for each task that no edge is from, of as many messages as `count` says; none where that is 0.
+pub fn some_results(
+    tasks: usize,
+    edges: &[(usize, usize, usize)],
+    mut count: impl FnMut() -> usize,
+) -> Vec<(usize, usize)> {
+    let senders: BTreeSet<_> = edges.iter().map(|edge| edge.0).collect();
+    let silent = (0..tasks).filter(|task| !senders.contains(task));
+    let results = silent.map(|task| (task, count()));
+    results.filter(|result| result.1 > 0).collect()
+}
+
 pub struct Family {
     pub name: &'static str,
     pub files: Vec<Vec<u8>>,
 }
 
-/// Jobs of a shape whose dearest message takes as long as the longest task: on a hypercube, or by wires as dear as its ways.
-fn family_on(topology: usize, name: &'static str, shape: fn(&mut Dice) -> Shape) -> Family {
+/// Jobs of a shape whose dearest message takes as long as the longest task: on a hypercube, or by wires as dear as its ways. They
+/// have a result of each task that may have one, or none.
+fn family_on(
+    topology: usize,
+    results: bool,
+    name: &'static str,
+    shape: fn(&mut Dice) -> Shape,
+) -> Family {
     let dice = &mut Dice::new(1);
     let platform = [16, topology, 5];
     let files = (0..JOBS).map(|_| {
         let edges = shape(dice).into_iter();
-        let edges = edges.map(|(from, to)| (from, to, dice.upto(50)));
+        let edges: Vec<_> = edges.map(|(from, to)| (from, to, dice.upto(50))).collect();
+        let wires = some_wires(dice, platform, 20);
+        let durations = (0..TASKS).map(|_| dice.upto(1000)).collect();
+        let results = if results {
+            some_results(TASKS, &edges, || dice.upto(50))
+        } else {
+            Vec::new()
+        };
         Job {
-            edges: edges.collect(),
             platform,
-            wires: some_wires(dice, platform, 20),
-            durations: (0..TASKS).map(|_| dice.upto(1000)).collect(),
+            wires,
+            durations,
+            edges,
+            results,
         }
         .file()
     });
@@ -79,7 +110,7 @@ fn family_on(topology: usize, name: &'static str, shape: fn(&mut Dice) -> Shape)
 }
 
 fn family(name: &'static str, shape: fn(&mut Dice) -> Shape) -> Family {
-    family_on(1, name, shape)
+    family_on(1, false, name, shape)
 }
 
 fn chain(_: &mut Dice) -> Shape {
@@ -137,6 +168,7 @@ fn worst() -> Vec<u8> {
         wires: Vec::new(),
         durations: vec![1; TASKS],
         edges: edges.collect(),
+        results: Vec::new(),
     }
     .file()
 }
@@ -152,6 +184,7 @@ fn even() -> Vec<u8> {
         wires: Vec::new(),
         durations: vec![1000; TASKS],
         edges: Vec::new(),
+        results: Vec::new(),
     }
     .file()
 }
@@ -160,7 +193,13 @@ fn dense(dice: &mut Dice) -> Shape {
     some_edges(dice, TASKS, 1024)
 }
 
-pub fn families() -> [Family; 11] {
+/// As many edges as a job can have, from as few tasks as they can come from: five. So the other 251 can have a result.
+fn from_five(_: &mut Dice) -> Shape {
+    let all = (0..TASKS).flat_map(|from| (from + 1..TASKS).map(move |to| (from, to)));
+    all.take(1024).collect()
+}
+
+pub fn families() -> [Family; 12] {
     [
         family("chain", chain),
         family("fork-join", fork_join),
@@ -168,7 +207,8 @@ pub fn families() -> [Family; 11] {
         family("out-tree", out_tree),
         family("layered", layered),
         family("dense", dense),
-        family_on(3, "wires", dense),
+        family_on(3, false, "wires", dense),
+        family_on(3, true, "results", from_five),
         family("random", |dice| some_edges(dice, TASKS, 400)),
         family("wide", |_| Shape::new()),
         Family {

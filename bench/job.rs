@@ -22,6 +22,8 @@ pub struct Reading {
     pub counts: [u16; 1024],
     /// The cost from p to q at place 16p + q; 0 where no wire is.
     pub wires: [u8; 256],
+    /// The messages of each task's result; 0 where it has none.
+    pub results: [u16; 256],
 }
 
 impl Reading {
@@ -38,6 +40,7 @@ impl Reading {
             to: [0; 1024],
             counts: [0; 1024],
             wires: [0; 256],
+            results: [0; 256],
         }
     }
 }
@@ -57,7 +60,7 @@ pub fn read(file: &[u8], reading: &mut Reading) {
 fn misplaced(rest: &[u8]) -> u8 {
     match rest.first() {
         None => 1,
-        Some(1..=5) => 3,
+        Some(1..=6) => 3,
         Some(_) => 2,
     }
 }
@@ -95,10 +98,15 @@ fn judge_duration(duration: u32) -> Result<(), u8> {
     Ok(())
 }
 
-fn judge_edge(from: u8, to: u8, count: u16, before: Option<u16>, tasks: usize) -> Result<(), u8> {
+fn judge_count(count: u16) -> Result<(), u8> {
     if !(1..=1_000).contains(&count) {
         return Err(4);
     }
+    Ok(())
+}
+
+fn judge_edge(from: u8, to: u8, count: u16, before: Option<u16>, tasks: usize) -> Result<(), u8> {
+    judge_count(count)?;
     if from >= to || usize::from(to) >= tasks {
         return Err(6);
     }
@@ -106,6 +114,15 @@ fn judge_edge(from: u8, to: u8, count: u16, before: Option<u16>, tasks: usize) -
         return Err(7);
     }
     Ok(())
+}
+
+/// Whether each task has a successor, by where the edges come from.
+fn senders(from: &[u8]) -> [bool; 256] {
+    let mut senders = [false; 256];
+    for &task in from {
+        senders[usize::from(task)] = true;
+    }
+    senders
 }
 
 /// Reads the wires, and gives what follows them and whether all pairs have one.
@@ -127,6 +144,33 @@ fn fill_wires<'a>(reading: &mut Reading, file: &'a [u8]) -> Result<(&'a [u8], bo
         rest = next;
     }
     Ok((rest, due.is_none()))
+}
+
+/// Reads the results, and gives what follows them.
+fn fill_results<'a>(
+    reading: &mut Reading,
+    file: &'a [u8],
+    tasks: usize,
+    edges: usize,
+) -> Result<&'a [u8], u8> {
+    if file.first() != Some(&6) {
+        return Ok(file);
+    }
+    let senders = senders(&reading.from[..edges]);
+    let mut due = 0..tasks;
+    let mut rest = file;
+    while let Some((6, body)) = rest.split_first() {
+        let (&[task, low, high], next) = body.split_first_chunk().ok_or(1)?;
+        let (task, count) = (usize::from(task), u16::from_le_bytes([low, high]));
+        judge_count(count)?;
+        if !due.contains(&task) || senders[task] {
+            return Err(15);
+        }
+        reading.results[task] = count;
+        due.start = task + 1;
+        rest = next;
+    }
+    Ok(rest)
 }
 
 fn fill(reading: &mut Reading, file: &[u8]) -> Result<(usize, usize), u8> {
@@ -176,6 +220,7 @@ fn fill(reading: &mut Reading, file: &[u8]) -> Result<(usize, usize), u8> {
         rest = next;
     }
 
+    let rest = fill_results(reading, rest, tasks, edges)?;
     let Some((4, after)) = rest.split_first() else {
         return Err(misplaced(rest));
     };
@@ -185,26 +230,18 @@ fn fill(reading: &mut Reading, file: &[u8]) -> Result<(usize, usize), u8> {
     Ok((tasks, edges))
 }
 
-/// Writes a job held as numbers, and gives the length written.
-pub fn write(
-    platform: Platform,
-    tasks: usize,
-    edges: usize,
-    durations: &[u32; 256],
-    from: &[u8; 1024],
-    to: &[u8; 1024],
-    counts: &[u16; 1024],
-    wires: &[u8; 256],
-    out: &mut [u8],
-) -> Result<usize, u8> {
-    let durations = durations.get(..tasks).ok_or(5)?;
-    let from = from.get(..edges).ok_or(5)?;
-    let to = &to[..edges];
-    let counts = &counts[..edges];
+/// Writes the first `tasks` tasks and `edges` edges of a job held as numbers, and gives the length written; the verdict is not
+/// looked at.
+pub fn write(job: &Reading, tasks: usize, edges: usize, out: &mut [u8]) -> Result<usize, u8> {
+    let platform = job.platform;
+    let durations = job.durations.get(..tasks).ok_or(5)?;
+    let from = job.from.get(..edges).ok_or(5)?;
+    let to = &job.to[..edges];
+    let counts = &job.counts[..edges];
     judge_platform(platform)?;
     let mut wired = 0;
     for pair in pairs(platform) {
-        judge_cost(wires[place(pair)])?;
+        judge_cost(job.wires[place(pair)])?;
         wired += 4;
     }
     if tasks == 0 {
@@ -218,15 +255,28 @@ pub fn write(
         judge_edge(from, to, count, before, tasks)?;
         before = Some(u16::from_be_bytes([from, to]));
     }
+    let results = &job.results[..tasks];
+    let many = results.iter().filter(|&&count| count != 0).count();
+    if many > 0 {
+        for (&count, sends) in results.iter().zip(senders(from)) {
+            if count != 0 {
+                judge_count(count)?;
+                if sends {
+                    return Err(15);
+                }
+            }
+        }
+    }
 
-    let length = 5 + wired + 5 * (tasks + edges);
+    let length = 5 + wired + 5 * (tasks + edges) + 4 * many;
     let out = out.get_mut(..length).ok_or(9)?;
     out[..4].copy_from_slice(&[1, platform.processors, platform.topology, platform.unit]);
     let (records, rest) = out[4..length - 1].split_at_mut(wired);
     for (record, pair) in records.chunks_exact_mut(4).zip(pairs(platform)) {
-        record.copy_from_slice(&[5, pair.0, pair.1, wires[place(pair)]]);
+        record.copy_from_slice(&[5, pair.0, pair.1, job.wires[place(pair)]]);
     }
-    let (steps, links) = rest.split_at_mut(5 * tasks);
+    let (steps, rest) = rest.split_at_mut(5 * tasks);
+    let (links, deliveries) = rest.split_at_mut(5 * edges);
     for (record, duration) in steps.chunks_exact_mut(5).zip(durations) {
         record[0] = 2;
         record[1..].copy_from_slice(&duration.to_le_bytes());
@@ -234,6 +284,11 @@ pub fn write(
     for (((record, &from), &to), count) in links.chunks_exact_mut(5).zip(from).zip(to).zip(counts) {
         let [low, high] = count.to_le_bytes();
         record.copy_from_slice(&[3, from, to, low, high]);
+    }
+    let given = results.iter().enumerate().filter(|(_, &count)| count != 0);
+    for (record, (task, count)) in deliveries.chunks_exact_mut(4).zip(given) {
+        let [low, high] = count.to_le_bytes();
+        record.copy_from_slice(&[6, task as u8, low, high]);
     }
     out[length - 1] = 4;
     Ok(length)

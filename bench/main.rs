@@ -1,6 +1,7 @@
 //! Times the job reader and writer, the planner, the checker and the cover call against plain Rust ones, in one run, and prints the
-//! ratios; then the cover call against our planner. First it holds each against the other on the files of the cases of `vectors`,
-//! whose path is the first argument, and more. Last it prints how much stack planner, checker and cover call take.
+//! ratios; then the cover call against our planner. First it holds each against the other on the files of the cases of crate
+//! `vectors`, whose folder is the first argument, and more. Last it prints how much stack planner, checker and cover call take.
+mod cases;
 mod checker;
 mod cover;
 mod covers;
@@ -16,10 +17,13 @@ mod tally;
 mod timing;
 
 fn main() {
-    let path = std::env::args().nth(1).expect("the path of the cases");
-    let cases = std::fs::read(&path).expect("the cases can be read");
-    let files = reader::files(&cases);
+    let folder = std::env::args().nth(1).expect("the folder of the cases");
+    let cases = std::fs::read(format!("{folder}/stdin")).expect("the cases can be read");
+    let lines =
+        std::fs::read_to_string(format!("{folder}/stdout")).expect("their lines can be read");
+    let files = cases::files(&cases);
     let families = families::families();
+    cases::hold(&cases, &lines);
     reader::hold(&files);
     let jobs = plans::jobs(&files, &families);
     plans::hold(&jobs);

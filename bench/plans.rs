@@ -8,6 +8,12 @@ use crate::{checker, planner, proved, stack, timing};
 
 const RANDOM_JOBS: usize = 400;
 
+/// The plain Rust planner as C calls ours: 0, or the refusal's number; the end is not told.
+#[inline(never)]
+fn rust_plan(file: &[u8], plan: &mut [u8]) -> u32 {
+    planner::plan(file, plan).err().unwrap_or(0)
+}
+
 fn some_job(dice: &mut Dice) -> Job {
     let most = dice.one_of(&[4, 20, 256]);
     let tasks = dice.upto(most);
@@ -16,16 +22,18 @@ fn some_job(dice: &mut Dice) -> Job {
     let most = (tasks * (tasks - 1) / 2).min(1024);
     let edges = dice.below(most + 1).min(4 * tasks);
     let shape = families::some_edges(dice, tasks, edges).into_iter();
-    let edges = shape
+    let edges: Vec<_> = shape
         .map(|(from, to)| (from, to, dice.upto(dearest)))
         .collect();
     let platform = [dice.upto(16), dice.below(4), dice.one_of(&[0, 1, 7, 100])];
     let most = dice.one_of(&[2, 20, 250]);
+    let greatest = dice.one_of(&[0, 1, 30, 1000]);
     Job {
-        edges,
         platform,
         wires: families::some_wires(dice, platform, most),
         durations: (0..tasks).map(|_| dice.upto(longest)).collect(),
+        results: families::some_results(tasks, &edges, || dice.below(greatest + 1)),
+        edges,
     }
 }
 
@@ -35,7 +43,7 @@ fn damage(dice: &mut Dice, file: &mut Vec<u8>) {
     match dice.below(4) {
         0 => file.truncate(place),
         1 => file.push(0),
-        _ => file[place] = dice.one_of(&[0, 1, 2, 3, 4, 5, 17, 251, 255]),
+        _ => file[place] = dice.one_of(&[0, 1, 2, 3, 4, 5, 6, 17, 251, 255]),
     }
 }
 
@@ -62,7 +70,7 @@ fn hold_planners(file: &[u8], tasks: usize, tally: &mut Tally) -> Vec<u8> {
         let answer = proved::plan(file, &mut ours);
         assert_eq!(
             answer,
-            planner::plan(file, &mut plan),
+            rust_plan(file, &mut plan),
             "{room} bytes, job {file:?}"
         );
         assert!(ours == plan, "the plans differ: {room} bytes, job {file:?}");
@@ -130,7 +138,7 @@ fn time_planners(family: &Family) {
         },
         |i| {
             let file = &files[i % files.len()];
-            black_box(planner::plan(black_box(file), black_box(&mut rust)));
+            black_box(rust_plan(black_box(file), black_box(&mut rust)));
         },
     );
     timing::report(&format!("plan {}", family.name), times);

@@ -4,8 +4,8 @@ use std::hint::black_box;
 use crate::job::{self, Reading, Verdict};
 use crate::{proved, timing};
 
-/// The places that `proved::read` takes: those of the five arrays, and one for the verdict.
-const PLACES: usize = 256 + 3 * 1024 + 256 + 1;
+/// The places that `proved::read` takes: those of the six arrays, and one for the verdict.
+const PLACES: usize = 256 + 3 * 1024 + 256 + 256 + 1;
 
 // The two calls of crate `timing` over the Rust reader and writer.
 
@@ -19,6 +19,7 @@ fn rust_read(file: &[u8], place: usize) -> u32 {
         1280..2304 => u32::from(r.to[place - 1280]),
         2304..3328 => u32::from(r.counts[place - 2304]),
         3328..3584 => u32::from(r.wires[place - 3328]),
+        3584..3840 => u32::from(r.results[place - 3584]),
         _ => match r.verdict {
             Verdict::Counts { .. } => 0,
             Verdict::Refused(number) => u32::from(number),
@@ -34,17 +35,7 @@ fn rust_copy(file: &[u8], out: &mut [u8]) -> u32 {
         Verdict::Counts { tasks, edges } => (tasks, edges),
         Verdict::Refused(number) => return u32::from(number),
     };
-    match job::write(
-        r.platform,
-        tasks,
-        edges,
-        &r.durations,
-        &r.from,
-        &r.to,
-        &r.counts,
-        &r.wires,
-        out,
-    ) {
+    match job::write(&r, tasks, edges, out) {
         Ok(_) => 0,
         Err(number) => u32::from(number),
     }
@@ -60,19 +51,6 @@ fn same(file: &[u8]) -> bool {
         })
 }
 
-/// The files among the cases of `vectors`.
-pub fn files(cases: &[u8]) -> Vec<&[u8]> {
-    let (mut found, mut rest) = (Vec::new(), cases);
-    while let [what, low, high, more @ ..] = rest {
-        let (body, next) = more.split_at(usize::from(u16::from_le_bytes([*low, *high])));
-        if *what == b'r' {
-            found.push(body);
-        }
-        rest = next;
-    }
-    found
-}
-
 /// Holds the two against each other.
 pub fn hold(files: &[&[u8]]) {
     for (i, file) in files.iter().enumerate() {
@@ -81,8 +59,9 @@ pub fn hold(files: &[&[u8]]) {
     println!("{} files: both readers and both writers agree", files.len());
 }
 
-/// A job file on 16 processors whose last task is `last`, with the first `edges` edges; with wires under topology 3.
-fn job_file(topology: u8, last: u8, edges: usize) -> Vec<u8> {
+/// A job file on 16 processors whose last task is `last`, with the first `edges` edges; with wires under topology 3; with results
+/// of all tasks that no edge is from, or of none.
+fn job_file(topology: u8, last: u8, edges: usize, results: bool) -> Vec<u8> {
     let mut file = vec![1, 16, topology, 100];
     let pairs = (0..16).flat_map(|from| (0..16).map(move |to| (from, to)));
     for (from, to) in pairs.filter(|(from, to)| topology == 3 && from != to) {
@@ -93,9 +72,15 @@ fn job_file(topology: u8, last: u8, edges: usize) -> Vec<u8> {
         file.extend((1_000_000 - 977 * u32::from(t)).to_le_bytes());
     }
     let pairs = (0..=last).flat_map(|from| (from + 1..=last).map(move |to| (from, to)));
+    let mut silent = 0..=last;
     for (i, (from, to)) in pairs.take(edges).enumerate() {
         file.extend([3, from, to]);
         file.extend((1 + i as u16 * 7 % 1000).to_le_bytes());
+        silent = from + 1..=last;
+    }
+    for task in silent.filter(|_| results) {
+        file.extend([6, task]);
+        file.extend((1 + u16::from(task) * 37 % 1000).to_le_bytes());
     }
     file.push(4);
     file
@@ -126,9 +111,10 @@ fn time_file(name: &str, file: &[u8]) {
 
 pub fn time() {
     for (name, file) in [
-        ("256 tasks, 1,024 edges", job_file(2, 255, 1024)),
-        ("the same, 240 wires", job_file(3, 255, 1024)),
-        ("10 tasks, 12 edges", job_file(2, 9, 12)),
+        ("256 tasks, 1,024 edges", job_file(2, 255, 1024, false)),
+        ("the same, 240 wires", job_file(3, 255, 1024, false)),
+        ("the same, 251 results", job_file(3, 255, 1024, true)),
+        ("10 tasks, 12 edges", job_file(2, 9, 12, false)),
     ] {
         assert!(same(&file));
         time_file(name, &file);

@@ -1,11 +1,11 @@
 //! How often each answer came.
 
 /// By the answer's number.
-pub struct Tally([usize; 15]);
+pub struct Tally([usize; 16]);
 
 impl Tally {
     pub fn new() -> Self {
-        Tally([0; 15])
+        Tally([0; 16])
     }
 
     pub fn count(&mut self, answer: u32) {
