@@ -82,6 +82,10 @@ platformTrouble p = pick (not (platformInRange p)) 4 0
 unfoldable pub stepTrouble : ℕ → ℕ
 stepTrouble d = pick (not (durationInRange d)) 4 0
 
+-- the trouble of a message count, of a link or a result, 4, or 0 for none
+unfoldable pub countTrouble : ℕ → ℕ
+countTrouble c = pick (not (countInRange c)) 4 0
+
 -- the trouble of a link, 4, 6 or 7, or 0 for none; `least` is the least key above the link before
 unfoldable pub linkTrouble : ℕ → ℕ → Edge → ℕ
 linkTrouble m least e =

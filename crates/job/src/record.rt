@@ -6,7 +6,8 @@ ghost use lib.ListN.{length, take, drop};
 ghost use Rattle.base.specs.Lists.{values};
 ghost use Rattle.base.specs.Number.{number};
 ghost use Rattle.job.specs.Pass.{edge, key, wireOf, resultOf, OnPair, PairAfter, dueFrom, sends};
-ghost use Rattle.job.specs.Pass.{platformTrouble, costTrouble, wireTrouble, stepTrouble, linkTrouble, deliveryTrouble, resultTrouble};
+ghost use Rattle.job.specs.Pass.{platformTrouble, costTrouble, wireTrouble, stepTrouble, countTrouble, linkTrouble};
+ghost use Rattle.job.specs.Pass.{deliveryTrouble, resultTrouble};
 
 // A pair of processors, or past the last one: then `from` is their number n.
 pub struct Pair {
@@ -123,15 +124,26 @@ pub fn key(from: u8, to: u8) -> u32
     256 * base::wide8(from) + base::wide8(to)
 }
 
-// `least` is the least key above the link before.
-pub fn link_trouble(from: u8, to: u8, count: u16, tasks: usize, least: u32) -> u8
-    ensures { λ r. ⌜ r ≡ linkTrouble tasks least (edge from to count) ⌝ }
+// Of a link or a result.
+fn count_trouble(count: u16) -> u8
+    ensures { λ r. ⌜ r ≡ countTrouble count ⌝ }
 {
     if count < 1 {
         return 4;
     }
     if 1000 < count {
         return 4;
+    }
+    0
+}
+
+// `least` is the least key above the link before.
+pub fn link_trouble(from: u8, to: u8, count: u16, tasks: usize, least: u32) -> u8
+    ensures { λ r. ⌜ r ≡ linkTrouble tasks least (edge from to count) ⌝ }
+{
+    let trouble = count_trouble(count);
+    if trouble != 0 {
+        return trouble;
     }
     if to <= from {
         return 6;
@@ -160,14 +172,12 @@ pub fn senders(from: &[u8; 1024], edges: usize) -> [bool; 256]
 }
 
 // `sent`: the task has a successor.
-pub fn delivery_trouble(sent: bool, messages: u16) -> u8
-    ensures { λ r. ⌜ r ≡ deliveryTrouble sent messages ⌝ }
+pub fn delivery_trouble(sent: bool, count: u16) -> u8
+    ensures { λ r. ⌜ r ≡ deliveryTrouble sent count ⌝ }
 {
-    if messages < 1 {
-        return 4;
-    }
-    if 1000 < messages {
-        return 4;
+    let trouble = count_trouble(count);
+    if trouble != 0 {
+        return trouble;
     }
     if sent {
         return 15;

@@ -59,6 +59,15 @@ pub first-none : (a b : ℕ) → a ≡ 0 → firstOf a b ≡ b
 first-none zero b h = refl
 first-none (suc a) b h = let z : ⊥ = omega arith in absurd z
 
+-- a value that was judged by itself: out of its range, and in its range with what is judged after it
+pub ranged-out : (t : Bool) {n : ℕ} (x : ℕ) → n ≡ pick (not t) 4 0 → (n ≡ 0 → ⊥) → n ≡ pick (not t) 4 x
+ranged-out true x e d = absurd (d e)
+ranged-out false x e d = e
+
+pub ranged-in : (t : Bool) {n y : ℕ} (x : ℕ) → n ≡ pick (not t) 4 0 → n ≡ 0 → y ≡ x → y ≡ pick (not t) 4 x
+ranged-in true x e z d = d
+ranged-in false x e z d = let n : ⊥ = omega arith in absurd n
+
 -- where there is trouble, what holds without it is not asked for
 pub troubled : (n : ℕ) {A : Type 0} → suc n ≡ 0 → A
 troubled n e = let z : ⊥ = omega arith in absurd z

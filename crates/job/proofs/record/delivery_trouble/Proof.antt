@@ -1,44 +1,46 @@
--- `record::delivery_trouble`: each return is one case of the definition, in plain numbers.
+-- `record::delivery_trouble`: the trouble of the count, and after it one case of the definition for each return.
 use mathlib.Core.Bool.{Bool, true, false}
 use mathlib.Core.Path.{_≡_}
-use Prim.Native.Nat.{ℕ, _<_, _≤_}
+use Prim.Native.Nat.{ℕ}
 use native.Mathlib.Omega.{arith}
-use borrow.Author.Tests.{le-leb, lt-leb}
-use Rattle.job.specs.Limits.{mostCount}
+use borrow.Author.Needs.{needs}
+use Rattle.base.specs.Choice.{pick}
 use Rattle.job.specs.Record.{countInRange}
-use Rattle.job.specs.Pass.{deliveryTrouble}
+use Rattle.job.specs.Pass.{countTrouble, deliveryTrouble}
+use Rattle.job.specs.Laws.Judged.{ranged-out, ranged-in}
 use Rattle.job.proofs.record.delivery_trouble.Statement.{statement}
 use Rattle.job.proofs.record.delivery_trouble.Tie as tie
 
-module _ (sent : Bool) (n : ℕ) where
-  low : n < 1 → 4 ≡ deliveryTrouble sent n
-  unfolding deliveryTrouble countInRange
-  low a = simp (lt-leb _ _ a)
+-- `trouble` is that of the count
+module _ (sent : Bool) (n trouble : ℕ) (is : trouble ≡ countTrouble n) where
+  out : (trouble ≡ 0 → ⊥) → trouble ≡ deliveryTrouble sent n
+  unfolding countTrouble deliveryTrouble
+  out = ranged-out (countInRange n) (pick sent 15 0) is
 
-  high : 1 ≤ n → mostCount < n → 4 ≡ deliveryTrouble sent n
-  unfolding deliveryTrouble countInRange
-  high a b = simp (le-leb _ _ a, lt-leb _ _ b)
-
-  module _ (a : 1 ≤ n) (b : n ≤ mostCount) where
+  module _ (z : trouble ≡ 0) where
     has-successor : sent ≡ true → 15 ≡ deliveryTrouble sent n
-    unfolding deliveryTrouble countInRange
-    has-successor e = simp (le-leb _ _ a, le-leb _ _ b, e)
+    unfolding countTrouble deliveryTrouble
+    has-successor e = ranged-in (countInRange n) (pick sent 15 0) is z (rw e)
 
     none : sent ≡ false → 0 ≡ deliveryTrouble sent n
-    unfolding deliveryTrouble countInRange
-    none e = simp (le-leb _ _ a, le-leb _ _ b, e)
+    unfolding countTrouble deliveryTrouble
+    none e = ranged-in (countInRange n) (pick sent 15 0) is z (rw e)
+
+count-trouble-requires : tie.Need-count-trouble-requires
+count-trouble-requires c κs = search needs
 
 returns : tie.Need-returns
-returns c = low _ _ (omega (arith, c .if1 .taken))
+returns c = out _ _ _ (c .before .count-trouble .ensures) (c .if1 .taken)
 
 returns-2 : tie.Need-returns-2
-returns-2 c = high _ _ (omega (arith, c .before .if1 .left)) (omega (arith, c .if2 .taken))
+returns-2 c =
+    let at-if1 = c .before in
+    has-successor _ _ _ (at-if1 .before .count-trouble .ensures) (omega (arith, at-if1 .if1 .left)) (c .if2 .taken)
 
 returns-3 : tie.Need-returns-3
-returns-3 c = has-successor _ _ (omega (arith, c .before .before .if1 .left)) (omega (arith, c .before .if2 .left)) (c .if3 .taken)
-
-returns-4 : tie.Need-returns-4
-returns-4 c = none _ _ (omega (arith, c .before .before .if1 .left)) (omega (arith, c .before .if2 .left)) (c .if3 .left)
+returns-3 c =
+    let at-if1 = c .before in
+    none _ _ _ (at-if1 .before .count-trouble .ensures) (omega (arith, at-if1 .if1 .left)) (c .if2 .left)
 
 pub delivery-trouble-spec : {M : Type 1} → statement M
-delivery-trouble-spec = tie.close (tie.spec returns returns-2 returns-3 returns-4)
+delivery-trouble-spec = tie.close (tie.spec count-trouble-requires returns returns-2 returns-3)

@@ -10,6 +10,7 @@ use Rattle.base.specs.Laws.Tests.{is-true, is-not, eq→eqb, ne→neqb}
 use Rattle.job.specs.Job.{Wire}
 use Rattle.job.specs.Record.{costInRange, isDue}
 use Rattle.job.specs.Pass.{wireOf, dueFrom, OnPair, costTrouble, wireTrouble}
+use Rattle.job.specs.Laws.Judged.{ranged-out, ranged-in}
 use Rattle.job.specs.Laws.Wires.{due-pair, none-due}
 use borrow.Author.Needs.{needs}
 use Rattle.job.proofs.record.wire_trouble.Statement.{statement}
@@ -19,19 +20,11 @@ use Rattle.job.proofs.record.wire_trouble.Tie as tie
 module _ (due : List (ℕ × ℕ)) (w : Wire) (trouble : ℕ) (is : trouble ≡ costTrouble (w .cost)) where
   high : (trouble ≡ 0 → ⊥) → trouble ≡ wireTrouble due w
   unfolding costTrouble wireTrouble
-  high d = go (costInRange (w .cost)) is
-    where
-      go : (b : Bool) → trouble ≡ pick (not b) 4 0 → trouble ≡ pick (not b) 4 (pick (not (isDue due w)) 14 0)
-      go true e = absurd (d e)
-      go false e = e
+  high = ranged-out (costInRange (w .cost)) (pick (not (isDue due w)) 14 0) is
 
   low : (x : ℕ) → trouble ≡ 0 → x ≡ pick (not (isDue due w)) 14 0 → x ≡ wireTrouble due w
   unfolding costTrouble wireTrouble
-  low x z d = go (costInRange (w .cost)) is
-    where
-      go : (b : Bool) → trouble ≡ pick (not b) 4 0 → x ≡ pick (not b) 4 (pick (not (isDue due w)) 14 0)
-      go true e = d
-      go false e = absurd (omega arith)
+  low x = ranged-in (costInRange (w .cost)) (pick (not (isDue due w)) 14 0) is
 
 -- (p, q) is the next pair due
 module _ (n p q from to cost trouble : ℕ) (is : trouble ≡ costTrouble cost) (z : trouble ≡ 0) where
