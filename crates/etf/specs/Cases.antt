@@ -1,6 +1,6 @@
 -- The worked cases of document 01 ("Ticks worked out") in one table, held to the definitions by computing them; after them cases that its
--- words settle and its list does not have, cases of document 02 §1 and §2, and the small inputs of the refusal table that are the checker's.
--- In the documents' words.
+-- words settle and its list does not have, cases of document 02 §1 and §2, and the small inputs of the refusal table that are the
+-- checker's. In the documents' words.
 use mathlib.Core.Option.{Option, none, some, bind, orElse}
 use mathlib.Core.Path.{_≡_, refl, sym, _∙_}
 use mathlib.Core.List.{List, [], _∷_, _++_, map, flatMap, map-append}

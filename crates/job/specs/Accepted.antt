@@ -86,8 +86,10 @@ accepted-job file j e =
       rising = λ i h. rises-facts (edgeAt j i) (edgeAt j (suc i)) (k .0 .edges-rise i h);
       results-rise = k .0 .results-rise;
       results-within = λ r h. k .0 .results-right r h .0;
-      results-last = λ r h i l e. neqb→ne (edgeAt j i .from) (r .task)
-          (any-not (λ (d : Edge). eqb (d .from) (r .task)) (j .edges) (k .0 .results-right r h .1) (edgeAt j i) (at-in noEdge (j .edges) i l)) e;
+      results-last = λ r h i l.
+          neqb→ne (edgeAt j i .from) (r .task)
+          (any-not (λ (d : Edge). eqb (d .from) (r .task)) (j .edges) (k .0 .results-right r h .1)
+          (edgeAt j i) (at-in noEdge (j .edges) i l));
       some-delivery = λ r h. count-facts (r .count) (k .0 .results-right r h .2) .0;
       few-deliveries = λ T. count-most (j .results) mostCount T (λ r h. count-facts (r .count) (k .0 .results-right r h .2) .1);
       few-results = results-few noEdge j (k .0 .edges-join) (k .0 .edges-rise) (k .0 .few-tasks) (k .0 .results-rise)

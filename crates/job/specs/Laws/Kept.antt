@@ -14,9 +14,9 @@ use Rattle.base.specs.Laws.Tests.{impossible}
 use Rattle.base.specs.Laws.Lists.{in-nothing, for-cons, for-join}
 use Rattle.job.specs.Job.{Edge, Wire, Result, RiseByTask, ends, wireCost, Job, blank}
 use Rattle.job.specs.Limits.{mostWireCost, mostTasks, mostEdges}
-use Rattle.job.specs.Record.{Kind, rack, step, link, end, wire, result, durationIn, edgeIn, wireIn, resultIn, empty, noRack, stands, full}
-use Rattle.job.specs.Record.{platformInRange, durationInRange, countInRange, costInRange, inRange, joins, wirePairs, pairsDue}
-use Rattle.job.specs.Record.{hasSuccessor, misfit, added}
+use Rattle.job.specs.Record.{Kind, rack, step, link, end, wire, result, durationIn, edgeIn, wireIn, resultIn, empty, noRack}
+use Rattle.job.specs.Record.{stands, full, platformInRange, durationInRange, countInRange, costInRange, inRange, joins, wirePairs}
+use Rattle.job.specs.Record.{pairsDue, hasSuccessor, misfit, added}
 use Rattle.job.specs.Read.{Answer, accepted}
 use Rattle.job.specs.Cause.{Untroubled}
 use Rattle.job.specs.Laws.Turn.{Reads, no-more, halted, past, closed}

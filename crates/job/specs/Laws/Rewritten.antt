@@ -35,7 +35,8 @@ use Rattle.job.specs.Laws.Turn.{Reads, no-more, halted, past, closed, re
 abbrev bytesOf : Job → List ℕ
 bytesOf j =
     rackBytes (j .platform)
-    ++ (flatMap wireBytes (j .wires) ++ (flatMap stepBytes (j .tasks) ++ (flatMap linkBytes (j .edges) ++ flatMap resultBytes (j .results))))
+    ++ (flatMap wireBytes (j .wires)
+    ++ (flatMap stepBytes (j .tasks) ++ (flatMap linkBytes (j .edges) ++ flatMap resultBytes (j .results))))
 
 data ReadFrom : Job → List ℕ → Type 0 where
   start : ReadFrom blank []
@@ -126,7 +127,15 @@ grown step rest j bs h b f (under-way n u e) =
     let none : j .edges ≡ [] = step-placed j (f .placed) .1 in
     let none′ : j .results ≡ [] = step-placed j (f .placed) .2 in
     let q : bs ++ (2 ∷ take 4 rest) ≡ bytesOf (withTasks j (d ∷ [])) =
-    rw (e, none, none′, ← step-bytes rest b (f .whole), append-nil steps, flatMap-more stepBytes (j .tasks) d, append-nil (steps ++ stepBytes d))
+    rw (
+      e,
+      none,
+      none′,
+      ← step-bytes rest b (f .whole),
+      append-nil steps,
+      flatMap-more stepBytes (j .tasks) d,
+      append-nil (steps ++ stepBytes d),
+    )
     (simp append-assoc) in
     under-way n (λ t. (none, none′)) q
 grown link rest j bs h b f start = absurd (f .placed)

@@ -60,7 +60,12 @@ module _ {A : InArrays} (F : Plannable A) {starts processors : List ℕ} (H : Ho
     same-at : (T : ℕ) → T < A .tasks → deliveredAt (A .durations) results (A .costs) starts processors T ≡ at T
     unfolding deliveredAt instanceIn startOf processorOf
     same-at T h =
-        rw (H .starts-are T h, H .processors-are T h, results-are T (omega (arith, F .few-tasks)), ← timed F T (omega (arith, held-tasks F)))
+        rw (
+          H .starts-are T h,
+          H .processors-are T h,
+          results-are T (omega (arith, F .few-tasks)),
+          ← timed F T (omega (arith, held-tasks F)),
+        )
 
     by-place : end I result ps ≡ most (A .tasks) (deliveredAt (A .durations) results (A .costs) starts processors)
     by-place =

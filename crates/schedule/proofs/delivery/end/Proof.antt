@@ -1,5 +1,5 @@
--- `delivery::end`: the loop keeps the greatest of the last finish and of the arrivals looked at. A turn adds one; where a task has no result,
--- what would be added is its finish, which is no later than the last.
+-- `delivery::end`: the loop keeps the greatest of the last finish and of the arrivals looked at. A turn adds one; where a task has no
+-- result, what would be added is its finish, which is no later than the last.
 use mathlib.Core.Path.{_≡_}
 use mathlib.Core.Logic.{⊎-elim}
 use mathlib.Core.List.{List}
