@@ -27,8 +27,8 @@ use Rattle.schedule.specs.Answered.{one-job}
 use Rattle.demands.specs.Laws.Answers.{planned-as, outcome-is, covered-as, figures-is, plan-taken, cover-taken}
 
 -- 02 §2: "the dearest result time (a count times that cost) of our plan"; in those words: `result-time-right` of crate etf's Jobs
-abbrev pub resultTime : Job → ℕ
-resultTime j = dearestResult (instance j) (resultOf j) (planned (instance j))
+abbrev pub dearestResultTime : Job → ℕ
+dearestResultTime j = dearestResult (instance j) (resultOf j) (planned (instance j))
 
 -- what is promised of the numbers E, C and D that the calls report for a file
 pub record Promised (file : List ℕ) (E C D : ℕ) : Type 0 where
@@ -39,7 +39,7 @@ pub record Promised (file : List ℕ) (E C D : ℕ) : Type 0 where
   -- makespan. 02 §2: "C plus the dearest result time .. of our plan where C stood"; it is 0 for a job without results
   pub end-within : (S : Ideal (instance job))
       → job .platform .processors * E
-      ≤ (2 * job .platform .processors - 1) * makespan (instance job) S + job .platform .processors * (C + resultTime job)
+      ≤ (2 * job .platform .processors - 1) * makespan (instance job) S + job .platform .processors * (C + dearestResultTime job)
   -- 02 §2: "it is C alone, without the result time, that is at most the dearest chain"
   pub cover-within : C ≤ D
   -- a job without results: document 00's own inequality

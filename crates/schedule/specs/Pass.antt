@@ -16,7 +16,7 @@ use Rattle.etf.specs.Bounds.{mostMessageTime, mostFinish}
 use Rattle.etf.specs.Topology.{entry}
 use Rattle.etf.specs.Checker.{latestStart}
 use Rattle.schedule.specs.declared.Laid.{Laid}
-use Rattle.schedule.specs.declared.Laid.the-variants.{End, Short}
+use Rattle.schedule.specs.declared.Laid.the-variants.{Last, Short}
 use Rattle.schedule.specs.declared.planner.Pair.{Pair}
 use Rattle.schedule.specs.declared.planner.Moment.{Moment}
 use Rattle.schedule.specs.declared.planner.Choice.{Choice}
@@ -226,7 +226,7 @@ unfoldable pub layCall : Instance → List ℕ → List ℕ → List ℕ → Cal
 layCall I starts processors scratch =
     pick (tooShort arrivalPlaces (tasks I) starts processors scratch)
     (called Short starts processors scratch)
-    (laidOut (End (lastOf I)) I starts processors scratch)
+    (laidOut (Last (lastOf I)) I starts processors scratch)
 
 -- ---- the checker, in terms of the arrays
 

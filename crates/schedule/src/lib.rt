@@ -52,7 +52,7 @@ pub enum Checked {
 
 // What laying a plan out gives: its last finish, or that a slice is too short.
 pub enum Laid {
-    End(u32),
+    Last(u32),
     Short,
 }
 
@@ -104,7 +104,7 @@ fn lay_out<'a>(
         return Laid::Short;
     }
     clear(scratch);
-    Laid::End(planner::run(
+    Laid::Last(planner::run(
         n,
         tasks,
         edges,
@@ -144,7 +144,7 @@ pub fn plan(file: &[u8], starts: &mut [u32], processors: &mut [u8], scratch: &mu
         processors,
         scratch,
     );
-    let Laid::End(last) = laid else {
+    let Laid::Last(last) = laid else {
         return Planned::Refused(9);
     };
     let end = delivery::end(
@@ -219,7 +219,7 @@ pub fn cover(file: &[u8], starts: &mut [u32], processors: &mut [u8], scratch: &m
         processors,
         scratch,
     );
-    let Laid::End(_) = laid else {
+    let Laid::Last(_) = laid else {
         return Covered::Refused(9);
     };
     Covered::Cover(measure(

@@ -29,7 +29,7 @@ use Rattle.schedule.specs.declared.Planned.the-variants.{Plan}
 use Rattle.schedule.specs.declared.Figures.{Figures}
 use Rattle.schedule.specs.declared.Covered.the-variants.{Cover}
 use Rattle.schedule.specs.declared.Laid.{Laid}
-use Rattle.schedule.specs.declared.Laid.the-variants.{End, Short}
+use Rattle.schedule.specs.declared.Laid.the-variants.{Last, Short}
 use Rattle.schedule.specs.InArrays.{InArrays, instanceIn, Plannable}
 use Rattle.schedule.specs.Call.{Call, called, startOf, processorOf, scratchAt, arrivalPlaces, laidOut, planFor, tooShort, callFor}
 use Rattle.schedule.specs.Plan.{lastOf, endOf, outcome}
@@ -67,10 +67,10 @@ no-number (some k) z e = absurd (z (ap some e))
 -- ---- a plan laid out
 
 -- it ended, or a slice was too short
-clash : {X : Type 0} {e : ℕ} → Short ≡ End e → X
+clash : {X : Type 0} {e : ℕ} → Short ≡ Last e → X
 clash h = let z : false ≡ true = cc in impossible z
 
-same-end : {d e : ℕ} → End d ≡ End e → d ≡ e
+same-end : {d e : ℕ} → Last d ≡ Last e → d ≡ e
 same-end h = cc
 
 -- none of the three slices is too short
@@ -115,23 +115,23 @@ module _ {A : InArrays} (F : Plannable A) where
     pub laid-end : {t : Bool} {r : ℕ} {starts′ processors′ cleared scratch′ : List ℕ}
         → t ≡ shortOf (A .tasks) (length starts) (length processors) (length scratch) → t ≡ false
         → cleared ≡ filled (λ x. 0) 4096 scratch → called r starts′ processors′ scratch′ ≡ runCall I starts processors cleared
-        → called (End r) starts′ processors′ scratch′ ≡ layCall I starts processors scratch
+        → called (Last r) starts′ processors′ scratch′ ≡ layCall I starts processors scratch
     unfolding layCall laidOut
     laid-end e w f R =
         rw (short-is e w)
-        (ap (λ (c : Call ℕ). called (End (c .answer)) (c .starts) (c .processors) (c .scratch)) R
+        (ap (λ (c : Call ℕ). called (Last (c .answer)) (c .starts) (c .processors) (c .scratch)) R
         ∙ rw (f, filled-filled (scratchAt I) (λ x. 0) 4096 scratch (long-enough e w .2)))
 
     -- where it is laid out, the slices hold it
-    pub laid-holds : {laid : Laid} {e : ℕ} {starts′ processors′ scratch′ : List ℕ} → laid ≡ End e
+    pub laid-holds : {laid : Laid} {e : ℕ} {starts′ processors′ scratch′ : List ℕ} → laid ≡ Last e
         → called laid starts′ processors′ scratch′ ≡ layCall I starts processors scratch → HoldsPlan I (A .tasks) starts′ processors′
     unfolding layCall laidOut tooShort
     laid-holds {e = e} {starts′} {processors′} {scratch′} is w =
         go (ltb (length starts) (tasks I)) refl (ltb (length processors) (tasks I)) refl (ltb (length scratch) arrivalPlaces) (rw is at w)
       where
         go : (x : Bool) → ltb (length starts) (tasks I) ≡ x → (y : Bool) → ltb (length processors) (tasks I) ≡ y → (z : Bool)
-            → called (End e) starts′ processors′ scratch′
-            ≡ pick (x || (y || z)) (called Short starts processors scratch) (laidOut (End (lastOf I)) I starts processors scratch)
+            → called (Last e) starts′ processors′ scratch′
+            ≡ pick (x || (y || z)) (called Short starts processors scratch) (laidOut (Last (lastOf I)) I starts processors scratch)
             → HoldsPlan I (A .tasks) starts′ processors′
         go true p y q z h = clash (sym (ap (λ (c : Call Laid). c .answer) h))
         go false p true q z h = clash (sym (ap (λ (c : Call Laid). c .answer) h))
@@ -142,15 +142,15 @@ module _ {A : InArrays} (F : Plannable A) where
             (ap (λ (c : Call Laid). c .starts) h) (ap (λ (c : Call Laid). c .processors) h))
 
     -- and the answer is its last finish
-    pub laid-last : {laid : Laid} {e : ℕ} {starts′ processors′ scratch′ : List ℕ} → laid ≡ End e
+    pub laid-last : {laid : Laid} {e : ℕ} {starts′ processors′ scratch′ : List ℕ} → laid ≡ Last e
         → called laid starts′ processors′ scratch′ ≡ layCall I starts processors scratch → e ≡ lastOf I
     unfolding layCall laidOut
     laid-last {e = e} {starts′} {processors′} {scratch′} is w =
         go (tooShort arrivalPlaces (tasks I) starts processors scratch) (rw is at w)
       where
         go : (b : Bool)
-            → called (End e) starts′ processors′ scratch′
-            ≡ pick b (called Short starts processors scratch) (laidOut (End (lastOf I)) I starts processors scratch)
+            → called (Last e) starts′ processors′ scratch′
+            ≡ pick b (called Short starts processors scratch) (laidOut (Last (lastOf I)) I starts processors scratch)
             → e ≡ lastOf I
         go true h = clash (sym (ap (λ (c : Call Laid). c .answer) h))
         go false h = same-end (ap (λ (c : Call Laid). c .answer) h)
@@ -219,13 +219,13 @@ module _ {file : List ℕ} {x : Reading} {m l : ℕ} (K : Read file x m l) where
         where
           go : (b : Bool)
               → called Short starts′ processors′ scratch′
-              ≡ pick b (called Short starts processors scratch) (laidOut (End (lastOf J)) J starts processors scratch)
+              ≡ pick b (called Short starts processors scratch) (laidOut (Last (lastOf J)) J starts processors scratch)
               → called (refuse 9) starts′ processors′ scratch′
               ≡ pick b (called (refuse 9) starts processors scratch) (planFor answer (K .job) starts processors scratch)
           go true h = ap (λ (c : Call Laid). called (refuse 9) (c .starts) (c .processors) (c .scratch)) h
           go false h = clash (ap (λ (c : Call Laid). c .answer) h)
 
-      pub call-end : {laid : Laid} {e : ℕ} {r : R} → laid ≡ End e
+      pub call-end : {laid : Laid} {e : ℕ} {r : R} → laid ≡ Last e
           → called laid starts′ processors′ scratch′ ≡ layCall H starts processors scratch
           → (e ≡ lastOf J → r ≡ answer (K .job))
           → called r starts′ processors′ scratch′ ≡ callFor arrivalPlaces refuse (planFor answer) (readJob file) starts processors scratch
@@ -234,8 +234,8 @@ module _ {file : List ℕ} {x : Reading} {m l : ℕ} (K : Read file x m l) where
           rw (K .says) (go (tooShort arrivalPlaces (tasks J) starts processors scratch) (rw (is, same) at w))
         where
           go : (b : Bool)
-              → called (End e) starts′ processors′ scratch′
-              ≡ pick b (called Short starts processors scratch) (laidOut (End (lastOf J)) J starts processors scratch)
+              → called (Last e) starts′ processors′ scratch′
+              ≡ pick b (called Short starts processors scratch) (laidOut (Last (lastOf J)) J starts processors scratch)
               → called r starts′ processors′ scratch′
               ≡ pick b (called (refuse 9) starts processors scratch) (planFor answer (K .job) starts processors scratch)
           go true h = clash (sym (ap (λ (c : Call Laid). c .answer) h))
