@@ -7,13 +7,14 @@ use Prim.Native.Nat.{ℕ, _≤_}
 use lib.Dec.{ltb}
 use lib.ListN.{length, getD}
 use Rattle.base.specs.Choice.{pick}
-use Rattle.job.specs.Read.{Answer, accepted, refused, readJob}
+use Rattle.job.specs.Read.{Answer, accepted, refused, readJob, readingOf}
 use Rattle.etf.specs.Instance.{Instance, tasks}
 use Rattle.etf.specs.Schedule.{scheduleOf}
 use Rattle.etf.specs.Checker.{check}
 use Rattle.etf.specs.OfJob.{instance}
 use Rattle.schedule.specs.declared.Checked.{Checked}
 use Rattle.schedule.specs.declared.Checked.the-variants.{Yes, Refused}
+use Rattle.schedule.specs.declared.Judged.{Judged}
 use Rattle.schedule.specs.Call.{CallNumber}
 
 -- what the checker says of a plan, a processor and a start for each task; none is a yes.
@@ -46,3 +47,7 @@ checkFor (refused k) starts processors = Refused k
 -- the checker's call for a file and a plan's two slices
 unfoldable pub checkCall : List ℕ → List ℕ → List ℕ → Checked
 checkCall file starts processors = checkFor (readJob file) starts processors
+
+-- what the reader finds in a file, and the checker's call for it
+unfoldable pub judgeCall : List ℕ → List ℕ → List ℕ → Judged
+judgeCall file starts processors = record { reading = readingOf (readJob file); checked = checkCall file starts processors }

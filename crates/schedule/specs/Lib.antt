@@ -5,6 +5,7 @@ pub mod Cover
 pub mod Check
 pub mod Lent
 pub mod Answered
+pub mod Verdict
 pub mod Cases
 pub mod OwnPlan
 pub mod Pass

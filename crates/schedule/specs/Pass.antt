@@ -15,6 +15,8 @@ use Rattle.etf.specs.Instance.{Instance, tasks}
 use Rattle.etf.specs.Bounds.{mostMessageTime, mostFinish}
 use Rattle.etf.specs.Topology.{entry}
 use Rattle.etf.specs.Checker.{latestStart}
+use Rattle.schedule.specs.declared.Checked.{Checked}
+use Rattle.schedule.specs.declared.Checked.the-variants.{Refused}
 use Rattle.schedule.specs.declared.Laid.{Laid}
 use Rattle.schedule.specs.declared.Laid.the-variants.{Last, Short}
 use Rattle.schedule.specs.declared.planner.Pair.{Pair}
@@ -22,6 +24,7 @@ use Rattle.schedule.specs.declared.planner.Moment.{Moment}
 use Rattle.schedule.specs.declared.planner.Choice.{Choice}
 use Rattle.schedule.specs.Call.{Call, called, arrivalPlaces, laidOut, tooShort}
 use Rattle.schedule.specs.Plan.{lastOf}
+use Rattle.schedule.specs.Check.{checkOf, checkedAs}
 
 -- ---- numbers and tests over a row of places
 
@@ -280,3 +283,11 @@ module _ (durations starts processors : List ℕ) where
     pub has-processor : getD to k 0 < length processors
     pub on-processor : getD processors (getD to k 0) 0 < 16
     pub near : getD counts k 0 * entry costs (getD processors (getD from k 0) 0) (getD processors (getD to k 0) 0) ≤ mostMessageTime
+
+-- ---- the checker's answer
+
+-- what the checker says of the plan in two slices for an instance of m tasks: 9 for a slice too short for them, a rule's number, or a yes
+unfoldable pub said : Instance → ℕ → List ℕ → List ℕ → Checked
+said I m starts processors =
+    pick (ltb (length starts) m || ltb (length processors) m) (Refused 9)
+    (checkedAs (checkOf I (λ T. getD processors T 0) (λ T. getD starts T 0)))

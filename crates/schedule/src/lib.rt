@@ -7,6 +7,7 @@ mod hypercube;
 mod planner;
 mod walk;
 
+use job::Reading;
 use job::Verdict;
 ghost use mathlib.Core.Path.{_≡_};
 ghost use Prim.Native.Nat.{_≤_};
@@ -16,8 +17,8 @@ ghost use Rattle.schedule.specs.InArrays.{byNumber, instanceIn, Plannabl
 ghost use Rattle.schedule.specs.Call.{called};
 ghost use Rattle.schedule.specs.Plan.{planCall};
 ghost use Rattle.schedule.specs.Cover.{figures, coverCall};
-ghost use Rattle.schedule.specs.Check.{checkCall};
-ghost use Rattle.schedule.specs.Pass.{shortOf, layCall};
+ghost use Rattle.schedule.specs.Check.{checkCall, judgeCall};
+ghost use Rattle.schedule.specs.Pass.{shortOf, layCall, said};
 ghost use Rattle.schedule.specs.CoverPass.{HoldsPlan};
 
 // What planning a job gives: the number of its tasks and the plan's end.
@@ -48,6 +49,12 @@ pub enum Covered {
 pub enum Checked {
     Yes,
     Refused(u8),
+}
+
+// What the reader finds in a job file, and what the checker says of a plan for it.
+pub struct Judged {
+    pub reading: Reading,
+    pub checked: Checked,
 }
 
 // What laying a plan out gives: its last finish, or that a slice is too short.
@@ -236,6 +243,48 @@ pub fn cover(file: &[u8], starts: &mut [u32], processors: &mut [u8], scratch: &m
     ))
 }
 
+// What the checker says of a plan in two slices for an instance: 9 for a slice too short for its tasks, the plan's trouble, or a yes.
+fn say<'a>(
+    n: usize,
+    tasks: usize,
+    edges: usize,
+    durations: &'a [u32],
+    from: &'a [u8],
+    to: &'a [u8],
+    counts: &'a [u16],
+    costs: [[u32; 16]; 16],
+    starts: &[u32],
+    processors: &[u8],
+) -> Checked
+    requires { ⌜ Plannable (byNumber n tasks edges (now durations) (now from) (now to) (now counts) costs) ⌝ }
+    ensures { λ r. ⌜ r ≡ said
+        (instanceIn (byNumber n tasks edges (now (durations .entry)) (now (from .entry)) (now (to .entry)) (now (counts .entry)) costs))
+        tasks (now (starts .entry)) (now (processors .entry)) ⌝ }
+{
+    if starts.len() < tasks {
+        return Checked::Refused(9);
+    }
+    if processors.len() < tasks {
+        return Checked::Refused(9);
+    }
+    let trouble = checker::trouble(
+        n,
+        tasks,
+        edges,
+        durations,
+        from,
+        to,
+        counts,
+        costs,
+        starts,
+        processors,
+    );
+    if 0 < trouble {
+        return Checked::Refused(trouble);
+    }
+    Checked::Yes
+}
+
 // Judges a plan for the job of a file (01: the checker).
 pub fn check(file: &[u8], starts: &[u32], processors: &[u8]) -> Checked
     ensures { λ r. ⌜ r ≡ checkCall (now (file .entry)) (now (starts .entry)) (now (processors .entry)) ⌝ }
@@ -245,15 +294,9 @@ pub fn check(file: &[u8], starts: &[u32], processors: &[u8]) -> Checked
     let Verdict::Counts { tasks, edges } = verdict else {
         return Checked::Refused(job::number(verdict));
     };
-    if starts.len() < tasks {
-        return Checked::Refused(9);
-    }
-    if processors.len() < tasks {
-        return Checked::Refused(9);
-    }
     let n = base::index(r.platform.processors);
     let costs = costs::square(r.platform, &r.arrays.wires);
-    let trouble = checker::trouble(
+    say(
         n,
         tasks,
         edges,
@@ -264,9 +307,34 @@ pub fn check(file: &[u8], starts: &[u32], processors: &[u8]) -> Checked
         costs,
         starts,
         processors,
+    )
+}
+
+// Judges a plan for the job of a file, and hands on what was read: for a call that goes on with the job when the plan is accepted.
+pub fn judge(file: &[u8], starts: &[u32], processors: &[u8]) -> Judged
+    ensures { λ r. ⌜ r ≡ judgeCall (now (file .entry)) (now (starts .entry)) (now (processors .entry)) ⌝ }
+{
+    let reading = job::read(file);
+    let verdict = reading.verdict;
+    let Verdict::Counts { tasks, edges } = verdict else {
+        return Judged {
+            reading,
+            checked: Checked::Refused(job::number(verdict)),
+        };
+    };
+    let n = base::index(reading.platform.processors);
+    let costs = costs::square(reading.platform, &reading.arrays.wires);
+    let checked = say(
+        n,
+        tasks,
+        edges,
+        &reading.arrays.durations,
+        &reading.arrays.from,
+        &reading.arrays.to,
+        &reading.arrays.counts,
+        costs,
+        starts,
+        processors,
     );
-    if 0 < trouble {
-        return Checked::Refused(trouble);
-    }
-    Checked::Yes
+    Judged { reading, checked }
 }

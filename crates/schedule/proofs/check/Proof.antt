@@ -1,23 +1,19 @@
--- `check` passes the reader's number on, refuses by 9 for each slice in turn, and else answers what `checker::trouble` finds.
-use native.Mathlib.Omega.{arith}
+-- `check` passes the reader's number on, and else answers what `say` says of the plan for the job's instance.
 use borrow.Author.Needs.{needs}
 use Rattle.schedule.specs.Laws.Reading.{read-as, wired, instance-held, plannable}
-use Rattle.schedule.specs.Laws.Calls.{check-passes-on, check-no-starts, check-no-processors, check-trouble, check-yes}
+use Rattle.schedule.specs.Laws.Calls.{check-passes-on, check-said}
 use Rattle.schedule.proofs.check.Statement.{statement}
 use Rattle.schedule.proofs.check.Tie as tie
 
 -- ---- the places
 
-abbrev verdict-of : tie.Else1 → tie.After-verdict
-verdict-of a = a .before .before
+abbrev verdict-of : tie.After-index → tie.After-verdict
+verdict-of i = i .before .before
 
 abbrev index-of : tie.After-square → tie.After-index
 index-of s = s .before .before .before .before
 
-abbrev room-of : tie.After-square → tie.Else2
-room-of s = index-of s .before
-
-abbrev square-of : tie.After-trouble → tie.After-square
+abbrev square-of : tie.After-say → tie.After-square
 square-of t = t .before .before .before .before .before .before .before .before .before .before
 
 read-requires : tie.Need-read-requires
@@ -35,51 +31,26 @@ number-requires c κs = search needs
 returns : tie.Need-returns
 returns c = check-passes-on _ (c .before .before .before .read .ensures) (c .before .enum-told .given .1) (c .number .ensures) _ _
 
-returns-2 : tie.Need-returns-2
-returns-2 c =
-    let v = c .before .before in
-    check-no-starts (read-as (v .before .before .read .ensures) (v .verdict .given .1)) _ _ (c .if1 .taken)
-
-returns-3 : tie.Need-returns-3
-returns-3 c =
-    let v = verdict-of (c .before) in
-    check-no-processors (read-as (v .before .before .read .ensures) (v .verdict .given .1)) _ _ (c .before .if1 .left) (c .if2 .taken)
-
 index-requires : tie.Need-index-requires
 index-requires c κs = search needs
 
 square-requires : tie.Need-square-requires
 square-requires c κs =
-    let v = verdict-of (c .before .before .before .before .before) in
+    let v = verdict-of (c .before .before .before) in
     wired (read-as (v .before .before .read .ensures) (v .verdict .given .1))
 
-trouble-requires : tie.Need-trouble-requires
-trouble-requires c κs =
+say-requires : tie.Need-say-requires
+say-requires c κs =
     let s = c .before .before .before .before .before .before .before .before .before in
-    let room = room-of s in
-    let v = verdict-of (room .before) in
-    let read = read-as (v .before .before .read .ensures) (v .verdict .given .1) in
-    (plannable read (index-of s .index .ensures .0) (s .square .ensures), (room .before .if1 .left, room .if2 .left))
+    let v = verdict-of (index-of s) in
+    plannable (read-as (v .before .before .read .ensures) (v .verdict .given .1)) (index-of s .index .ensures .0) (s .square .ensures)
 
-returns-4 : tie.Need-returns-4
-returns-4 c =
-    let t = c .before in
-    let s = square-of t in
-    let room = room-of s in
-    let v = verdict-of (room .before) in
+returns-2 : tie.Need-returns-2
+returns-2 c =
+    let s = square-of c in
+    let v = verdict-of (index-of s) in
     let read = read-as (v .before .before .read .ensures) (v .verdict .given .1) in
-    let same = instance-held read (index-of s .index .ensures .0) (s .square .ensures) in
-    check-trouble read same _ _ (room .before .if1 .left) (room .if2 .left) (t .trouble .ensures) (λ z. omega (arith, z, c .if3 .taken))
-
-returns-5 : tie.Need-returns-5
-returns-5 c =
-    let t = c .before in
-    let s = square-of t in
-    let room = room-of s in
-    let v = verdict-of (room .before) in
-    let read = read-as (v .before .before .read .ensures) (v .verdict .given .1) in
-    let same = instance-held read (index-of s .index .ensures .0) (s .square .ensures) in
-    check-yes read same _ _ (room .before .if1 .left) (room .if2 .left) (t .trouble .ensures) (omega (arith, c .if3 .left))
+    check-said read (instance-held read (index-of s .index .ensures .0) (s .square .ensures)) _ _ (c .say .ensures)
 
 pub check-spec : {M : Type 1} → statement M
 check-spec =
@@ -90,10 +61,7 @@ check-spec =
     enum-told
     number-requires
     returns
-    returns-2
-    returns-3
     index-requires
     square-requires
-    trouble-requires
-    returns-4
-    returns-5)
+    say-requires
+    returns-2)

@@ -24,6 +24,8 @@ use Rattle.etf.specs.Checker.{Because, no-processor, too-late, overlaps, too-ea
 use Rattle.etf.specs.Verdict.{number-only}
 use Rattle.etf.specs.Rule.{planned}
 use Rattle.etf.specs.OfJob.{instance, resultOf}
+use Rattle.schedule.specs.declared.Checked.{Checked}
+use Rattle.schedule.specs.declared.Judged.{Judged}
 use Rattle.schedule.specs.declared.Checked.the-variants.{Yes, Refused as NotChecked}
 use Rattle.schedule.specs.declared.Planned.the-variants.{Plan}
 use Rattle.schedule.specs.declared.Figures.{Figures}
@@ -34,8 +36,8 @@ use Rattle.schedule.specs.InArrays.{InArrays, instanceIn, Plannable}
 use Rattle.schedule.specs.Call.{Call, called, startOf, processorOf, scratchAt, arrivalPlaces, laidOut, planFor, tooShort, callFor}
 use Rattle.schedule.specs.Plan.{lastOf, endOf, outcome}
 use Rattle.schedule.specs.Cover.{figures}
-use Rattle.schedule.specs.Check.{checkOf, checkedAs, numberOf, checkFor, checkCall}
-use Rattle.schedule.specs.Pass.{Room, shortOf, runCall, layCall}
+use Rattle.schedule.specs.Check.{checkOf, checkedAs, numberOf, checkFor, checkCall, judgeCall}
+use Rattle.schedule.specs.Pass.{said, Room, shortOf, runCall, layCall}
 use Rattle.job.specs.Accepted.{refused-is}
 use Rattle.schedule.specs.CoverPass.{HoldsPlan}
 use Rattle.schedule.specs.Laws.Held.{held-tasks}
@@ -181,6 +183,38 @@ module _ (file : List ℕ) {x : Reading} (e : x ≡ readingOf (readJob file)) {k
   unfolding checkCall checkFor
   check-passes-on starts processors = rw file-refused
 
+-- what was read, and the checker's answer
+pub judged-as : (file starts processors : List ℕ) {x : Reading} {c : Checked} → x ≡ readingOf (readJob file)
+    → c ≡ checkCall file starts processors → _≡_ {A = Judged} (record { reading = x; checked = c }) (judgeCall file starts processors)
+unfolding judgeCall
+judged-as file starts processors e h = rw (e, h)
+
+-- ---- what the checker says of the plan in two slices
+
+module _ (H : Instance) (m : ℕ) (starts processors : List ℕ) where
+  pub said-no-starts : length starts < m → NotChecked 9 ≡ said H m starts processors
+  unfolding said
+  said-no-starts h = simp (lt-ltb _ _ h)
+
+  pub said-no-processors : m ≤ length starts → length processors < m → NotChecked 9 ≡ said H m starts processors
+  unfolding said
+  said-no-processors a h = simp (le-ltb _ _ a, lt-ltb _ _ h)
+
+  module _ {t : ℕ} (a : m ≤ length starts) (b : m ≤ length processors)
+      (g : t ≡ numberOf (checkOf H (λ T. getD processors T 0) (λ T. getD starts T 0))) where
+    abbrev verdict : Option ℕ
+    verdict = checkOf H (λ T. getD processors T 0) (λ T. getD starts T 0)
+
+    pub said-trouble : (t ≡ 0 → ⊥) → NotChecked t ≡ said H m starts processors
+    unfolding said
+    said-trouble h = simp (le-ltb _ _ a, le-ltb _ _ b) (some-number verdict t (sym g) h)
+
+    pub said-yes : t ≡ 0 → Yes ≡ said H m starts processors
+    unfolding said
+    said-yes h =
+        simp (le-ltb _ _ a, le-ltb _ _ b)
+        (no-number verdict (never-zero H (λ T. getD processors T 0) (λ T. getD starts T 0)) (sym g ∙ h))
+
 -- ---- an accepted file
 
 module _ {file : List ℕ} {x : Reading} {m l : ℕ} (K : Read file x m l) where
@@ -196,15 +230,6 @@ module _ {file : List ℕ} {x : Reading} {m l : ℕ} (K : Read file x m l) where
       → Plan (record { tasks = m; end = e }) ≡ Plan (outcome (K .job))
   unfolding outcome endOf
   planned-right same e-is = rw (e-is, same, tasks-is)
-
-  pub check-no-starts : (starts processors : List ℕ) → length starts < m → NotChecked 9 ≡ checkCall file starts processors
-  unfolding checkCall checkFor
-  check-no-starts starts processors h = rw (K .says) (simp (tasks-is, lt-ltb _ _ h))
-
-  pub check-no-processors : (starts processors : List ℕ) → m ≤ length starts → length processors < m
-      → NotChecked 9 ≡ checkCall file starts processors
-  unfolding checkCall checkFor
-  check-no-processors starts processors a h = rw (K .says) (simp (tasks-is, le-ltb _ _ a, lt-ltb _ _ h))
 
   -- the instance that was held in arrays
   module _ {H : Instance} (same : H ≡ J) where
@@ -244,22 +269,8 @@ module _ {file : List ℕ} {x : Reading} {m l : ℕ} (K : Read file x m l) where
               ∙ ap (λ (a : R). called a (filled (startOf J) (tasks J) starts) (filled (processorOf J) (tasks J) processors)
               (filled (scratchAt J) arrivalPlaces scratch)) (right (same-end (ap (λ (c : Call Laid). c .answer) h)))
 
-    module _ (starts processors : List ℕ) {t : ℕ} (a : m ≤ length starts) (b : m ≤ length processors)
-        (g : t ≡ numberOf (checkOf H (λ T. getD processors T 0) (λ T. getD starts T 0))) where
-      -- the checker's answer to the plan in the slices
-      abbrev verdict : Instance → Option ℕ
-      verdict i = checkOf i (λ T. getD processors T 0) (λ T. getD starts T 0)
-
-      says : numberOf (verdict J) ≡ t
-      says = sym (g ∙ ap (λ (i : Instance). numberOf (verdict i)) same)
-
-      pub check-trouble : (t ≡ 0 → ⊥) → NotChecked t ≡ checkCall file starts processors
-      unfolding checkCall checkFor
-      check-trouble h = rw (K .says) (simp (tasks-is, le-ltb _ _ a, le-ltb _ _ b) (some-number (verdict J) t says h))
-
-      pub check-yes : t ≡ 0 → Yes ≡ checkCall file starts processors
-      unfolding checkCall checkFor
-      check-yes h =
-          rw (K .says)
-          (simp (tasks-is, le-ltb _ _ a, le-ltb _ _ b)
-          (no-number (verdict J) (never-zero J (λ T. getD processors T 0) (λ T. getD starts T 0)) (says ∙ h)))
+    -- the checker's answer, by what is said of the plan in the slices
+    pub check-said : (starts processors : List ℕ) {c : Checked} → c ≡ said H m starts processors → c ≡ checkCall file starts processors
+    unfolding checkCall checkFor said
+    check-said starts processors g =
+        g ∙ rw (K .says, same, tasks-is)
