@@ -1,12 +1,13 @@
 -- What is printed for inputs of document 01, case A from the file's bytes to the text and a refusal: the definitions, computed.
 use mathlib.Core.Path.{_≡_, refl}
 use mathlib.Core.List.{[], _∷_}
+use Rattle.base.specs.Text.{text}
 use Rattle.job.specs.Cases.{computed}
 use Rattle.etf.specs.Cases.{answer}
 use Rattle.schedule.specs.Call.{startOf, processorOf}
 use Rattle.schedule.specs.Plan.{endOf}
 use Rattle.schedule.specs.Cases.{file-a}
-use Rattle.listing.specs.Listing.{text, digits, decimal, field, line, header, taskLine, taskLines, figures}
+use Rattle.listing.specs.Listing.{digits, decimal, field, line, header, taskLine, taskLines, figures}
 use Rattle.listing.specs.Listing.{planListing, refusalLine, listingFor, listing}
 
 -- 01: "For bytes 01 02 00 02, .." to "04" it prints the seven lines; and nothing but its number for the file that ends too early

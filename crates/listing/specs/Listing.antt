@@ -1,12 +1,11 @@
 -- What program `plan` prints for a job file (01: "Ticks worked out").
 use mathlib.Core.List.{List, [], _∷_, _++_, flatMap}
 use Prim.Native.Nat.{ℕ, zero, suc, _+_, _/_, _%_}
-use Prim.Native.Char.{code}
-use Prim.Native.String.{String, [] as []ᵗ, _∷_ as _∷ᵗ_}
 use lib.Dec.{ltb}
 use lib.ListN.{length, drop}
 use Rattle.base.specs.Choice.{pick}
 use Rattle.base.specs.Lists.{upto}
+use Rattle.base.specs.Text.{text, space, lineFeed}
 use Rattle.job.specs.Job.{Job}
 use Rattle.job.specs.Read.{Answer, accepted, refused, readJob}
 use Rattle.etf.specs.Instance.{tasks, duration}
@@ -15,11 +14,6 @@ use Rattle.etf.specs.Dearest.{dearest}
 use Rattle.etf.specs.OfJob.{instance}
 use Rattle.schedule.specs.Call.{startOf, processorOf}
 use Rattle.schedule.specs.Plan.{endOf}
-
--- the bytes of a text, in ASCII
-unfoldable pub text : String → List ℕ
-text []ᵗ = []
-text (c ∷ᵗ s) = code c ∷ text s
 
 -- the decimal digits of a number of at most k places, the most significant first and no zeros in front
 unfoldable pub digits : ℕ → ℕ → List ℕ
@@ -33,14 +27,6 @@ decimal x = digits 10 x
 -- a number and the byte that follows it, a space or a line feed
 unfoldable pub field : ℕ → ℕ → List ℕ
 field x next = decimal x ++ (next ∷ [])
-
--- what parts the numbers of a line
-abbrev pub space : ℕ
-space = 32
-
--- 01: "Each line ends in a line feed"
-abbrev pub lineFeed : ℕ
-lineFeed = 10
 
 -- 01: "each after its word and a space"
 unfoldable pub line : List ℕ → ℕ → List ℕ

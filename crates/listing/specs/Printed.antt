@@ -25,10 +25,15 @@ pub refused-text : (file out : List ℕ) (k : ℕ) → readJob file ≡ refused 
 unfolding listingCall listing listingFor
 refused-text file out k e = rw e
 
--- the text stands in the buffer: its length is at most the buffer's
-pub text-within : (file out : List ℕ) {n : ℕ} {out′ : List ℕ} → listed n out′ ≡ listingCall file out → n ≤ length out′
-unfolding listingCall putFirst
-text-within file out e =
+-- what is put at the front of the buffer stands in it: its length is at most the buffer's
+pub put-within : (bytes out : List ℕ) {n : ℕ} {out′ : List ℕ} → listed n out′ ≡ putFirst bytes out → n ≤ length out′
+unfolding putFirst
+put-within bytes out e =
     let size = ap (λ (c : ListingCall). c .written) e in
     let held = ap (λ (c : ListingCall). length (c .buffer)) e in
-    omega (arith, size, held, length-append (listing file) (drop (length (listing file)) out))
+    omega (arith, size, held, length-append bytes (drop (length bytes) out))
+
+-- so is a listing
+pub text-within : (file out : List ℕ) {n : ℕ} {out′ : List ℕ} → listed n out′ ≡ listingCall file out → n ≤ length out′
+unfolding listingCall
+text-within file out e = put-within (listing file) out e

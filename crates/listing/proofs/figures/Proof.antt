@@ -6,7 +6,8 @@ use native.Mathlib.Omega.{arith}
 use borrow.Author.Needs.{needs}
 use Rattle.base.specs.Slices.{Put}
 use Rattle.base.specs.Laws.Put.{put-then}
-use Rattle.listing.specs.Listing.{text, line, figures}
+use Rattle.base.specs.Text.{text}
+use Rattle.listing.specs.Listing.{line, figures}
 use Rattle.listing.proofs.figures.Statement.{statement}
 use Rattle.listing.proofs.figures.Tie as tie
 

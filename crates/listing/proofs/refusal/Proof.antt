@@ -1,7 +1,7 @@
 -- `refusal`: the line that is put is the refusal's.
 use native.Mathlib.Omega.{arith}
 use borrow.Author.Needs.{needs}
-use Rattle.listing.specs.Listing.{text}
+use Rattle.base.specs.Text.{text}
 use Rattle.listing.specs.Laws.Listed.{refusal-put}
 use Rattle.listing.proofs.refusal.Statement.{statement}
 use Rattle.listing.proofs.refusal.Tie as tie

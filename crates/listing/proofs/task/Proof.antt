@@ -4,7 +4,8 @@ use Prim.Native.Nat.{ℕ}
 use borrow.Author.Needs.{needs}
 use Rattle.base.specs.Slices.{Put}
 use Rattle.base.specs.Laws.Put.{put-then}
-use Rattle.listing.specs.Listing.{field, space, lineFeed, taskLine}
+use Rattle.base.specs.Text.{space, lineFeed}
+use Rattle.listing.specs.Listing.{field, taskLine}
 use Rattle.listing.proofs.task.Statement.{statement}
 use Rattle.listing.proofs.task.Tie as tie
 

@@ -10,6 +10,7 @@ use Rattle.base.specs.Slices.{Put}
 use Rattle.base.specs.Laws.Lists.{upto-of, flatMap-same}
 use Rattle.base.specs.Laws.Stored.{sets-front}
 use Rattle.base.specs.Laws.Put.{put-then}
+use Rattle.base.specs.Text.{text}
 use Rattle.job.specs.declared.Reading.{Reading}
 use Rattle.job.specs.declared.Verdict.the-variants.{Counts, Refused}
 use Rattle.job.specs.Limits.{mostTasks, mostEdges}
@@ -30,7 +31,7 @@ use Rattle.schedule.specs.declared.Covered.the-variants.{Cover, Refused as NotC
 use Rattle.schedule.specs.Call.{called, startOf, processorOf, arrivalPlaces}
 use Rattle.schedule.specs.Plan.{endOf, outcome, planCall}
 use Rattle.schedule.specs.Cover.{figures as figuresOf, coverCall}
-use Rattle.listing.specs.Listing.{text, line, header, taskLines, figures, planListing, refusalLine, listingFor, listing}
+use Rattle.listing.specs.Listing.{line, header, taskLines, figures, planListing, refusalLine, listingFor, listing}
 use Rattle.listing.specs.Listing.{ListingCall, listed, putFirst, listingCall}
 use Rattle.listing.specs.Printed.{refused-text}
 use Rattle.listing.specs.Pass.{endIn, figuresIn}

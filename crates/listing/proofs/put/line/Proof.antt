@@ -4,7 +4,8 @@ use Prim.Native.Nat.{ℕ}
 use borrow.Author.Needs.{needs}
 use Rattle.base.specs.Slices.{Put}
 use Rattle.base.specs.Laws.Put.{put-then}
-use Rattle.listing.specs.Listing.{field, lineFeed, line}
+use Rattle.base.specs.Text.{lineFeed}
+use Rattle.listing.specs.Listing.{field, line}
 use Rattle.listing.proofs.put.line.Statement.{statement}
 use Rattle.listing.proofs.put.line.Tie as tie
 
