@@ -1,4 +1,4 @@
--- What reading the input comes to, and that enough of it is read.
+-- Enough of the input is read.
 use mathlib.Core.Path.{_≡_}
 use mathlib.Core.List.{List}
 use Prim.Native.Nat.{ℕ}
@@ -6,13 +6,6 @@ use native.Mathlib.Omega.{arith}
 use lib.ListN.{take}
 use Rattle.listing.specs.Listing.{listing}
 use Rattle.listing.specs.Printed.{first-bytes}
-use Rattle.plan.specs.declared.Came.{Came}
-use Rattle.plan.specs.declared.Came.the-variants.{Bytes, Failed}
-
--- how many bytes came
-abbrev pub count : Came → ℕ
-count (Bytes n) = n
-count Failed = 0
 
 -- what is printed for an input is what is printed for its first 16,384 bytes
 pub enough : (file : List ℕ) → listing (take 16384 file) ≡ listing file

@@ -1,20 +1,11 @@
 -- `main`: what was read, and what is written, are parts of the buffers.
-use mathlib.Core.Path.{_≡_, ap, sym}
-use mathlib.Core.List.{List}
-use Prim.Native.Nat.{ℕ, _≤_}
-use native.Mathlib.Omega.{arith}
+use mathlib.Core.Path.{sym}
 use borrow.Author.Needs.{needs}
-use lib.ListN.{length}
 use lib.Seq.{length-take-le}
+use Rattle.input.specs.Came.{came-within}
 use Rattle.listing.specs.Printed.{text-within}
-use Rattle.plan.specs.declared.Came.{Came}
-use Rattle.plan.specs.declared.Came.the-variants.{Bytes}
-use Rattle.plan.specs.Input.{count}
 use Rattle.plan.proofs.main.Statement.{statement}
 use Rattle.plan.proofs.main.Tie as tie
-
-came-within : {r : Came} {n k : ℕ} (input : List ℕ) → r ≡ Bytes n → count r ≤ k → length input ≡ k → n ≤ length input
-came-within input e h g = omega (arith, ap count e)
 
 slice-aggregate-read-all : tie.Need-slice-aggregate-read-all
 slice-aggregate-read-all c = search needs

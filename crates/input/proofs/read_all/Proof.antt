@@ -6,11 +6,11 @@ use native.Mathlib.Omega.{arith}
 use borrow.Author.Needs.{needs}
 use borrow.Rule.Slice.PartMut.{same-len-mid}
 use lib.ListN.{length, take, drop, length-take, length-drop}
-use Rattle.plan.specs.declared.Came.{Came}
-use Rattle.plan.specs.declared.Came.the-variants.{Bytes}
-use Rattle.plan.specs.Input.{count}
-use Rattle.plan.proofs.read_all.Statement.{statement}
-use Rattle.plan.proofs.read_all.Tie as tie
+use Rattle.input.specs.declared.Came.{Came}
+use Rattle.input.specs.declared.Came.the-variants.{Bytes}
+use Rattle.input.specs.Came.{count}
+use Rattle.input.proofs.read_all.Statement.{statement}
+use Rattle.input.proofs.read_all.Tie as tie
 
 -- what came fits what is left of the buffer
 fits : {r : Came} {n at : ℕ} (input : List ℕ) → r ≡ Bytes n → count r ≤ length (take (length input - at) (drop at input))
