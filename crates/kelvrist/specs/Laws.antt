@@ -1,3 +1,4 @@
 pub mod Encoded
 pub mod Decoded
+pub mod Taken
 pub mod OwnPlan

@@ -5,9 +5,13 @@ use job::Verdict;
 use schedule::Checked;
 use schedule::Planned;
 ghost use mathlib.Core.Path.{_≡_};
+ghost use Prim.Native.Nat.{_≤_};
+ghost use lib.ListN.{length};
+ghost use Rattle.job.specs.Limits.{mostTasks};
 ghost use Rattle.job.specs.Read.{readJob, readingOf};
 ghost use Rattle.kelvrist.specs.PlanBytes.{returned, planBytesCall, checkBytesCall};
 ghost use Rattle.kelvrist.specs.Numbers.{planNumber, checkNumber};
+ghost use Rattle.kelvrist.specs.Pass.{Taken};
 
 // 0 for a plan, or the refusal's number.
 fn plan_number(planned: Planned) -> u32
@@ -29,12 +33,29 @@ fn check_number(checked: Checked) -> u32
     }
 }
 
-// What the reader finds in a job's bytes. The job itself, some 5 KB, is gone from the stack when the plan is judged.
+// What the reader finds in a job's bytes. The job itself, some 6 KB, is gone from the stack when the plan is judged.
 fn verdict_on(job: &[u8]) -> Verdict
     ensures { λ r. ⌜ r ≡ readingOf (readJob (now (job .entry))) .verdict ⌝ }
 {
     let r = job::read(job);
     r.verdict
+}
+
+// Takes a plan's tasks off its bytes, as many as the job of `job` has: 0, or the refusal's number. No byte past 5m is read.
+fn take_plan(job: &[u8], plan: &[u8], starts: &mut [u32], processors: &mut [u8]) -> u32
+    requires { ⌜ (mostTasks ≤ length (now starts)) × (mostTasks ≤ length (now processors)) ⌝ }
+    ensures { λ r. ⌜ Taken (now (job .entry)) (now (plan .entry)) r (now (starts .exit)) (now (processors .exit)) ⌝ }
+{
+    let verdict = verdict_on(job);
+    let Verdict::Counts { tasks, edges: _ } = verdict else {
+        return base::wide8(job::number(verdict));
+    };
+    let bytes = 5 * tasks;
+    if plan.len() < bytes {
+        return 9;
+    }
+    encoding::get(tasks, plan, starts, processors);
+    0
 }
 
 // Plans the job of `job` into 5 bytes a task of `plan`: 0, or the refusal's number.
@@ -62,17 +83,12 @@ pub extern "C" fn kelvrist_plan(job: &[u8], plan: &mut [u8]) -> u32
 pub extern "C" fn kelvrist_check(job: &[u8], plan: &[u8]) -> u32
     ensures { λ r. ⌜ r ≡ checkBytesCall (now (job .entry)) (now (plan .entry)) ⌝ }
 {
-    let verdict = verdict_on(job);
-    let Verdict::Counts { tasks, edges: _ } = verdict else {
-        return base::wide8(job::number(verdict));
-    };
-    let bytes = 5 * tasks;
-    if plan.len() < bytes {
-        return 9;
-    }
     let mut starts = [0u32; 256];
     let mut processors = [0u8; 256];
-    encoding::get(tasks, plan, &mut starts, &mut processors);
+    let number = take_plan(job, plan, &mut starts, &mut processors);
+    if 0 < number {
+        return number;
+    }
     let checked = schedule::check(job, &starts, &processors);
     check_number(checked)
 }
