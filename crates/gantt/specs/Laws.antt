@@ -1,0 +1,5 @@
+pub mod Cells
+pub mod Layout
+pub mod Rows
+pub mod Marks
+pub mod Drawn
