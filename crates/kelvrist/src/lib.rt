@@ -1,6 +1,7 @@
-// The planner and the checker for C, on job bytes and plan bytes (document 01).
+// The planner and the checker for C, on job bytes and plan bytes (document 01), and the page of a plan (document 02 §3).
 mod encoding;
 
+use gantt::Drawn;
 use job::Verdict;
 use schedule::Checked;
 use schedule::Planned;
@@ -10,6 +11,7 @@ ghost use lib.ListN.{length};
 ghost use Rattle.job.specs.Limits.{mostTasks};
 ghost use Rattle.job.specs.Read.{readJob, readingOf};
 ghost use Rattle.kelvrist.specs.PlanBytes.{returned, planBytesCall, checkBytesCall};
+ghost use Rattle.kelvrist.specs.PageBytes.{pageNumber, drew, pageBytesCall};
 ghost use Rattle.kelvrist.specs.Numbers.{planNumber, checkNumber};
 ghost use Rattle.kelvrist.specs.Pass.{Taken};
 
@@ -30,6 +32,16 @@ fn check_number(checked: Checked) -> u32
     match checked {
         Checked::Yes => 0,
         Checked::Refused(number) => base::wide8(number),
+    }
+}
+
+// 0 for a page, or the refusal's number.
+fn page_number(drawn: Drawn) -> u32
+    ensures { λ r. ⌜ r ≡ pageNumber drawn ⌝ }
+{
+    match drawn {
+        Drawn::Length(_) => 0,
+        Drawn::Refused(number) => base::wide8(number),
     }
 }
 
@@ -91,4 +103,20 @@ pub extern "C" fn kelvrist_check(job: &[u8], plan: &[u8]) -> u32
     }
     let checked = schedule::check(job, &starts, &processors);
     check_number(checked)
+}
+
+// Draws the page of 5 bytes a task of `plan` for the job of `job` at the front of `page` (02 §3): 0, or the refusal's number. No byte
+// past 5m of the plan is read.
+#[no_mangle]
+pub extern "C" fn kelvrist_page(job: &[u8], plan: &[u8], page: &mut [u8]) -> u32
+    ensures { λ r. ⌜ drew r (now (page .exit)) ≡ pageBytesCall (now (job .entry)) (now (plan .entry)) (now (page .entry)) ⌝ }
+{
+    let mut starts = [0u32; 256];
+    let mut processors = [0u8; 256];
+    let trouble = take_plan(job, plan, &mut starts, &mut processors);
+    if 0 < trouble {
+        return trouble;
+    }
+    let drawn = gantt::draw(job, &starts, &processors, page);
+    page_number(drawn)
 }
