@@ -1,15 +1,16 @@
 # make run JOB=FILE  plans a job file, and prints the plan
+# make page JOB=FILE plans a job file, and prints the page of its plan for the cabinet door
 # make test          everything, from nothing: tests/gate
 # make check         proves what has changed, and runs the programs
-# make bench         times reader, writer, planner, checker and cover call against plain Rust ones, and measures the stack
+# make bench         times reader, writer, planner, checker, cover call and page against plain Rust ones, and measures the stack
 # make host          runs the C host over the static library, and the README's example
 # make differential  holds library and program to the reference planner on random jobs and plans: SEED=.. JOBS=..
 # make examples      holds the examples and the tools for them to the reference planner
 # make vectors       makes the cases of crates/vectors again
-# make definitions   holds the definitions of crate etf to the reference planner on random jobs: SEED=.. JOBS=..
+# make definitions   holds the definitions of crate etf, and the page, to the reference planner on random jobs: SEED=.. JOBS=..
 # make clean         removes what was made
 
-.PHONY: run test check bench host differential examples vectors definitions clean
+.PHONY: run page test check bench host differential examples vectors definitions clean
 .PHONY: job-named has-rt has-python3 has-cc has-objcopy has-rustc
 
 libraries = target/staticlib/libkelvrist.a target/staticlib/libtiming.a
@@ -18,8 +19,13 @@ libraries = target/staticlib/libkelvrist.a target/staticlib/libtiming.a
 override JOB := $(value JOB)
 export JOB
 
+run: prints = run
 run: job-named has-rt target/bin/plan
 	@target/bin/plan <"$$JOB"
+
+page: prints = page
+page: job-named has-rt target/bin/page
+	@target/bin/page <"$$JOB"
 
 test:
 	@tests/gate
@@ -41,7 +47,7 @@ host: has-rt has-cc has-python3 target/staticlib/libkelvrist.a
 	@tests/c_host/run
 	@python3 tests/readme.py
 
-differential: has-rt has-cc has-python3 $(libraries) target/bin/plan
+differential: has-rt has-cc has-python3 $(libraries) target/bin/plan target/bin/page
 	@python3 tests/differential/differential.py seed=$(SEED) jobs=$(JOBS)
 	@python3 tests/differential/program.py seed=$(SEED) jobs=$(JOBS)
 
@@ -68,12 +74,14 @@ target/staticlib/lib%.a:
 	@tools/prove staticlib $* >&2
 
 target/bin/plan: $(call sources,plan)
-	@tools/prove check plan >&2
+target/bin/page: $(call sources,page)
+target/bin/%:
+	@tools/prove check $* >&2
 	@touch $@
 
 # What is missing is said before anything is built.
 job-named:
-	@[ -n "$$JOB" ] || { echo "which job? for example: make run JOB=examples/a.job" >&2; exit 2; }
+	@[ -n "$$JOB" ] || { echo "which job? for example: make $(prints) JOB=examples/a.job" >&2; exit 2; }
 	@[ ! -d "$$JOB" ] || { printf '%s is a folder\n' "$$JOB" >&2; exit 2; }
 	@[ -r "$$JOB" ] || { printf '%s is no file that can be read\n' "$$JOB" >&2; exit 2; }
 

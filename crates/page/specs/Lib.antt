@@ -1,0 +1,4 @@
+pub mod Printed
+pub mod Cases
+pub mod Pass
+pub mod Laws
