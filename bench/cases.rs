@@ -80,6 +80,10 @@ pub fn hold(cases: &[u8], lines: &str) {
                 text.take_while(|line| !line.starts_with("listing of"))
                     .collect()
             }
+            b'd' => {
+                let rows = lines.by_ref();
+                rows.take_while(|line| !line.starts_with("page")).collect()
+            }
             _ => lines.by_ref().take(1).collect(),
         };
         let said = match what {

@@ -10,22 +10,21 @@ struct Plan {
 }
 
 impl Plan {
-    /// The plan in bytes, or the number of its first task out of range.
-    fn read(bytes: &[u8], job: &Reading) -> Result<Plan, u32> {
+    /// The plan of these tasks, each as its processor and its start, or the number of the first that is out of range.
+    fn new(job: &Reading, tasks: impl Iterator<Item = (u8, u32)>) -> Result<Plan, u32> {
         let mut plan = Plan {
             processors: [0; 256],
             starts: [0; 256],
             finishes: [0; 256],
         };
-        for (t, row) in bytes.chunks_exact(5).enumerate() {
-            let start = u32::from_le_bytes([row[1], row[2], row[3], row[4]]);
-            if row[0] >= job.platform.processors {
+        for (t, (processor, start)) in tasks.enumerate() {
+            if processor >= job.platform.processors {
                 return Err(10);
             }
             if start > 600_000_000 {
                 return Err(11);
             }
-            plan.processors[t] = row[0];
+            plan.processors[t] = processor;
             plan.starts[t] = start;
             plan.finishes[t] = start + job.durations[t];
         }
@@ -57,6 +56,18 @@ impl Plan {
     }
 }
 
+/// Judges a plan for a job that was read, its tasks in order, each as its processor and its start: 0 for a yes, or the refusal's
+/// number.
+pub fn judge(job: &Reading, edges: usize, plan: impl ExactSizeIterator<Item = (u8, u32)>) -> u32 {
+    let tasks = plan.len();
+    match Plan::new(job, plan) {
+        Err(number) => number,
+        Ok(plan) if plan.overlap(tasks) => 12,
+        Ok(plan) if plan.early(job, edges) => 13,
+        Ok(_) => 0,
+    }
+}
+
 /// Judges 5 bytes a task for the job of a file: 0 for a yes, or the refusal's number.
 pub fn check(file: &[u8], plan: &[u8]) -> u32 {
     let mut reading = Reading::blank();
@@ -68,10 +79,7 @@ pub fn check(file: &[u8], plan: &[u8]) -> u32 {
     let Some(bytes) = plan.get(..5 * tasks) else {
         return 9;
     };
-    match Plan::read(bytes, &reading) {
-        Err(number) => number,
-        Ok(plan) if plan.overlap(tasks) => 12,
-        Ok(plan) if plan.early(&reading, edges) => 13,
-        Ok(_) => 0,
-    }
+    let rows = bytes.chunks_exact(5);
+    let plan = rows.map(|row| (row[0], u32::from_le_bytes([row[1], row[2], row[3], row[4]])));
+    judge(&reading, edges, plan)
 }

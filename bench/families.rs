@@ -1,4 +1,4 @@
-//! The jobs that planner, checker and cover call are timed on, in families: 256 tasks on 16 processors.
+//! The jobs that planner, checker, cover call and page are timed on, in families: 256 tasks on 16 processors.
 use std::collections::BTreeSet;
 
 use crate::dice::Dice;

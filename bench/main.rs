@@ -1,6 +1,7 @@
-//! Times the job reader and writer, the planner, the checker and the cover call against plain Rust ones, in one run, and prints the
-//! ratios; then the cover call against our planner. First it holds each against the other on the files of the cases of crate
-//! `vectors`, whose folder is the first argument, and more. Last it prints how much stack planner, checker and cover call take.
+//! Times the job reader and writer, the planner, the checker, the cover call and the page against plain Rust ones, in one run, and
+//! prints the ratios; then the cover call against our planner. First it holds each against the other on the files of the cases of
+//! crate `vectors`, whose folder is the first argument, and more. Last it prints how much stack planner, checker, cover call and
+//! page take.
 mod cases;
 mod checker;
 mod cover;
@@ -8,6 +9,8 @@ mod covers;
 mod dice;
 mod families;
 mod job;
+mod page;
+mod pages;
 mod planner;
 mod plans;
 mod proved;
@@ -28,13 +31,16 @@ fn main() {
     let jobs = plans::jobs(&files, &families);
     plans::hold(&jobs);
     covers::hold(&jobs);
+    pages::hold(&jobs);
 
     timing::head("ours", "Rust");
     reader::time();
     plans::time(&families);
     covers::time(&families);
+    pages::time(&families);
     timing::head("cover", "plan");
     covers::time_beside_plan(&families);
     plans::measure_stack(&families);
     covers::measure_stack(&families);
+    pages::measure_stack(&families);
 }

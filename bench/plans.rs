@@ -48,7 +48,7 @@ fn damage(dice: &mut Dice, file: &mut Vec<u8>) {
 }
 
 /// A plan with a processor or a start changed, or too short.
-fn alter(dice: &mut Dice, plan: &mut Vec<u8>) {
+pub fn alter(dice: &mut Dice, plan: &mut Vec<u8>) {
     let at = 5 * dice.below(plan.len() / 5);
     let start = u32::from_le_bytes([plan[at + 1], plan[at + 2], plan[at + 3], plan[at + 4]]);
     let start = match dice.below(6) {
@@ -104,7 +104,7 @@ fn some_jobs(dice: &mut Dice) -> Vec<(Vec<u8>, usize)> {
     jobs
 }
 
-/// What planners, checkers and covers are held on: random jobs, these files, and each job of the families. Beside each stands its
+/// What planners, checkers, covers and pages are held on: random jobs, these files, and each job of the families. Beside each stands its
 /// number of tasks, or a greater one.
 pub fn jobs(files: &[&[u8]], families: &[Family]) -> Vec<(Vec<u8>, usize)> {
     let mut jobs = some_jobs(&mut Dice::new(2));
@@ -174,13 +174,15 @@ pub fn measure_stack(families: &[Family]) {
     for (name, function) in proved::addresses() {
         let files = families.iter().flat_map(|family| &family.files);
         let most = files.map(|file| {
-            let mut plan = vec![0; 5 * TASKS];
+            let (mut plan, mut page) = (vec![0; 5 * TASKS], vec![0; 70 * 16]);
             proved::plan(file, &mut plan);
             let arguments = [
                 file.as_ptr() as usize,
                 file.len(),
                 plan.as_mut_ptr() as usize,
                 plan.len(),
+                page.as_mut_ptr() as usize,
+                page.len(),
             ];
             stack::depth(function, &arguments)
         });

@@ -28,8 +28,11 @@ placed!(READ(*const u8, usize, usize): timing_read_at_0, timing_read_at_16, timi
 placed!(COPY(*const u8, usize, *mut u8, usize): timing_copy_at_0, timing_copy_at_16, timing_copy_at_32, timing_copy_at_48);
 placed!(PLAN(*const u8, usize, *mut u8, usize): kelvrist_plan_at_0, kelvrist_plan_at_16, kelvrist_plan_at_32, kelvrist_plan_at_48);
 placed!(CHECK(*const u8, usize, *const u8, usize): kelvrist_check_at_0, kelvrist_check_at_16, kelvrist_check_at_32, kelvrist_check_at_48);
+placed!(PAGE(*const u8, usize, *const u8, usize, *mut u8, usize): kelvrist_page_at_0, kelvrist_page_at_16, kelvrist_page_at_32, kelvrist_page_at_48);
 placed!(COVER(*const u8, usize, *mut u32, usize, *mut u8, usize, *mut u32, usize, *mut u32, usize):
     timing_cover_at_0, timing_cover_at_16, timing_cover_at_32, timing_cover_at_48);
+placed!(DRAW(*const u8, usize, *const u32, usize, *const u8, usize, *mut u8, usize):
+    timing_draw_at_0, timing_draw_at_16, timing_draw_at_32, timing_draw_at_48);
 
 /// The one of four that is to be called.
 fn there<F: Copy>(all: &[F; STARTS]) -> F {
@@ -78,14 +81,35 @@ pub fn cover(
     }
 }
 
-/// The addresses of the two calls on a job and a plan, by name.
-pub fn addresses() -> [(&'static str, usize); 2] {
+/// Draws a plan in `out`.
+pub fn draw(file: &[u8], starts: &[u32], processors: &[u8], out: &mut [u8]) -> u32 {
+    unsafe {
+        there(&DRAW)(
+            file.as_ptr(),
+            file.len(),
+            starts.as_ptr(),
+            starts.len(),
+            processors.as_ptr(),
+            processors.len(),
+            out.as_mut_ptr(),
+            out.len(),
+        )
+    }
+}
+
+/// The addresses of the three calls on a job and a plan, by name; the last has a page after them.
+pub fn addresses() -> [(&'static str, usize); 3] {
     [
         ("kelvrist_plan", there(&PLAN) as *const () as usize),
         ("kelvrist_check", there(&CHECK) as *const () as usize),
+        ("kelvrist_page", there(&PAGE) as *const () as usize),
     ]
 }
 
 pub fn cover_address() -> usize {
     there(&COVER) as *const () as usize
+}
+
+pub fn draw_address() -> usize {
+    there(&DRAW) as *const () as usize
 }

@@ -1,5 +1,5 @@
--- What the functions for benchmark and differential return and leave, over what the job reader and writer and the cover call return and
--- leave.
+-- What the functions for benchmark and differential return and leave, over what the job reader and writer, the cover call and the page
+-- return and leave.
 use mathlib.Core.Path.{_≡_}
 use mathlib.Core.List.{List, _∷_}
 use Prim.Native.Nat.{ℕ, _+_, _-_, _*_}
@@ -19,6 +19,9 @@ use Rattle.schedule.specs.declared.Covered.{Covered}
 use Rattle.schedule.specs.declared.Covered.the-variants.{Cover, Refused as NotCovered}
 use Rattle.schedule.specs.Call.{Call}
 use Rattle.schedule.specs.Cover.{coverCall}
+use Rattle.gantt.specs.declared.Drawn.{Drawn}
+use Rattle.gantt.specs.declared.Drawn.the-variants.{Length as PageLength, Refused as NotDrawn}
+use Rattle.gantt.specs.Draw.{DrawCall, drawCall}
 
 -- 0 for a job that was written, or the refusal's number
 abbrev pub writtenNumber : Written → ℕ
@@ -110,3 +113,24 @@ unfoldable pub coverTimed : List ℕ → List ℕ → List ℕ → List ℕ → 
 coverTimed file starts processors scratch out =
     pick (ltb (length out) 2) (coverReturned (orNine (readJob file)) starts processors scratch out)
     (withOutput (coverCall file starts processors scratch) out)
+
+-- 0 for a page that was drawn, or the refusal's number
+abbrev pub drawnNumber : Drawn → ℕ
+drawnNumber (PageLength n) = 0
+drawnNumber (NotDrawn k) = k
+
+-- what a call returns, and the last content of the output
+pub record DrawReturned : Type 0 where
+  pub number : ℕ
+  pub out : List ℕ
+
+abbrev pub drawReturned : ℕ → List ℕ → DrawReturned
+drawReturned k out = record { number = k; out = out }
+
+-- the page with a number for its answer
+abbrev pub withNumber : DrawCall → DrawReturned
+withNumber c = drawReturned (drawnNumber (c .answer)) (c .buffer)
+
+-- 02 §3: the page of a plan in the output, or the refusal's number and the output as it was
+unfoldable pub drawTimed : List ℕ → List ℕ → List ℕ → List ℕ → DrawReturned
+drawTimed file starts processors out = withNumber (drawCall file starts processors out)

@@ -1,5 +1,6 @@
-// The job reader and writer and the cover call as functions that the benchmark (bench/) and the differential (tests/differential) call
-// from C.
+// The job reader and writer, the cover call and the page as functions that the benchmark (bench/) and the differential
+// (tests/differential) call from C.
+use gantt::Drawn;
 use job::Verdict;
 use job::Written;
 use schedule::Covered;
@@ -8,6 +9,7 @@ ghost use Prim.Native.Nat.{_<_};
 ghost use lib.ListN.{getD};
 ghost use Rattle.job.specs.Read.{readJob, readingOf};
 ghost use Rattle.timing.specs.Timing.{writtenNumber, numberAt, Copied, refusalIn, coverReturned, coverTimed};
+ghost use Rattle.timing.specs.Timing.{drawnNumber, drawReturned, drawTimed};
 
 // 0 for a job that was written, or the refusal's number.
 fn written_number(written: Written) -> u32
@@ -139,4 +141,24 @@ pub extern "C" fn timing_cover(
     out[0] = figures.cover;
     out[1] = figures.dearest;
     0
+}
+
+// 0 for a page that was drawn, or the refusal's number.
+fn drawn_number(drawn: Drawn) -> u32
+    ensures { λ r. ⌜ r ≡ drawnNumber drawn ⌝ }
+{
+    match drawn {
+        Drawn::Length(_) => 0,
+        Drawn::Refused(number) => base::wide8(number),
+    }
+}
+
+// Draws the page of a plan for the job of a file at the front of `out`: 0, or the refusal's number.
+#[no_mangle]
+pub extern "C" fn timing_draw(file: &[u8], starts: &[u32], processors: &[u8], out: &mut [u8]) -> u32
+    ensures { λ r. ⌜ drawReturned r (now (out .exit)) ≡
+        drawTimed (now (file .entry)) (now (starts .entry)) (now (processors .entry)) (now (out .entry)) ⌝ }
+{
+    let drawn = gantt::draw(file, starts, processors, out);
+    drawn_number(drawn)
 }
