@@ -1,4 +1,4 @@
-/* Kelvrist: plans a job for linked processors, and checks plans. Library libkelvrist.a.
+/* Kelvrist: plans a job for linked processors, checks plans, and draws them. Library libkelvrist.a.
  *
  * A job is a platform of 1 to 16 equal processors, 1 to 256 tasks and up to 1,024 edges. An edge says
  * that one task sends messages to another, which cannot start before they are there. A task that sends
@@ -13,8 +13,8 @@
  *     for (t = 0; t < tasks; t++)
  *         begin(t, plan[5 * t], start_in(plan + 5 * t + 1));
  *
- * Any bytes may be handed in, and every call returns. What the two functions answer is proved for all
- * inputs; the statements are in crates/kelvrist/specs/PlanBytes.antt.
+ * Any bytes may be handed in, and every call returns. What the three functions answer is proved for
+ * all inputs; the statements are in crates/kelvrist/specs.
  *
  *
  * The job's bytes
@@ -46,7 +46,7 @@
  * Results move no task: a job with results gets the plan that it gets without them. They count for the
  * plan's end, which is the greatest of all finishes and of each result's arrival: its task's finish
  * plus its count times the cost from the task's processor to processor 0. Program `plan` prints the
- * end; the two functions here do not return it.
+ * end; the functions here do not return it.
  *
  *
  * The plan's bytes
@@ -55,13 +55,28 @@
  * its start at places 5t + 1 to 5t + 4 (little-endian). So a plan has 5m bytes, at most 1,280.
  *
  *
+ * The page's bytes
+ *
+ * A plan as text, to be taped inside the cabinet door: one row a processor, lowest first.
+ *
+ *      0 |####............................................................|
+ *      1 |###...##........................................................|
+ *
+ * A row has 70 bytes: the processor's number in two columns, padded left with a space; a space; a bar;
+ * 64 cells; a bar; a line feed. So a page has 70n bytes, at most 1,120, and no byte 0 after them. Let w
+ * be the last finish divided by 64, rounded up. Cell j, counted from 0, is `#` if the processor runs a
+ * task for at least one tick from jw up to (j + 1)w, else `.`. Results have no part in it: a plan's
+ * last finish can be before its end.
+ *
+ *
  * What a caller sees to
  *
  * - A pointer is valid for as many bytes as the length beside it says, and is not null, also where that
  *   length is 0.
- * - The bytes of the job and of the plan do not overlap, and nobody else writes to them during a call,
- *   nor reads the plan that kelvrist_plan is filling.
- * - The stack has room: kelvrist_plan takes about 38 KB, kelvrist_check about 16 KB.
+ * - The bytes of the job, of the plan and of the page do not overlap, and nobody else writes to them
+ *   during a call, nor reads the plan that kelvrist_plan is filling or the page that kelvrist_page is.
+ * - The stack has room: kelvrist_plan takes about 38 KB, kelvrist_check about 15 KB, kelvrist_page
+ *   about 21 KB.
  *
  * The library takes nothing from the heap, has no global data and keeps nothing between calls: calls
  * may run at the same time in different threads. Of the C library it needs memcpy and memset alone. It
@@ -77,7 +92,7 @@
 extern "C" {
 #endif
 
-/* The greatest of each. A job or a plan buffer of these lengths is enough for every job. */
+/* The greatest of each. A job, a plan buffer or a page of these lengths is enough for every job. */
 #define KELVRIST_PROCESSORS 16
 #define KELVRIST_TASKS 256
 #define KELVRIST_EDGES 1024
@@ -85,19 +100,20 @@ extern "C" {
 #define KELVRIST_RESULTS 256
 #define KELVRIST_JOB_BYTES 8369
 #define KELVRIST_PLAN_BYTES 1280
+#define KELVRIST_PAGE_BYTES 1120
 #define KELVRIST_LATEST_START 600000000
 
 /* What a call returns.
  *
  * The first trouble counts. Records are judged from the left, and within a record the order is 2, 3,
- * 5, 1, 4, 14, 15, 6, 7; then come 8 and 9. kelvrist_check goes on with each task by number, 10 before
- * 11, then with 12 for any two tasks, then with 13 for any edge.
+ * 5, 1, 4, 14, 15, 6, 7; then come 8 and 9. kelvrist_check and kelvrist_page go on with each task by
+ * number, 10 before 11, then with 12 for any two tasks, then with 13 for any edge.
  */
 enum kelvrist_answer {
-    /* The job is planned, or the plan handed in is good. */
+    /* The job is planned, the plan handed in is good, or its page is drawn. */
     KELVRIST_OK = 0,
 
-    /* The job is refused: either function. */
+    /* The job is refused: each function. */
 
     /* The job's bytes end where a record or the rest of one is due. An empty job is one such. */
     KELVRIST_JOB_ENDS_EARLY = 1,
@@ -125,12 +141,12 @@ enum kelvrist_answer {
      * result before it. */
     KELVRIST_RESULT_TASK = 15,
 
-    /* The plan's buffer is refused: either function. */
+    /* A buffer is refused: each function. */
 
-    /* It is shorter than 5m bytes. */
+    /* The plan is shorter than 5m bytes, or the page shorter than 70n. */
     KELVRIST_PLAN_TOO_SHORT = 9,
 
-    /* The plan handed in is refused: kelvrist_check alone. */
+    /* The plan handed in is refused: kelvrist_check and kelvrist_page. */
 
     /* A task's processor is not below n. */
     KELVRIST_NO_SUCH_PROCESSOR = 10,
@@ -159,6 +175,16 @@ uint32_t kelvrist_plan(const uint8_t *job, size_t job_length, uint8_t *plan, siz
  * bytes of the plan are read, no others; nothing is altered.
  */
 uint32_t kelvrist_check(const uint8_t *job, size_t job_length, const uint8_t *plan, size_t plan_length);
+
+/* Draws the page of a plan for a job. The plan is judged as kelvrist_check does, and need not be
+ * kelvrist_plan's.
+ *
+ * On KELVRIST_OK the first 70n bytes of the page are filled, and no other byte is altered. On 1 to 15
+ * nothing is altered; 9, for the plan or for the page, comes before 10 to 13. The first 5m bytes of the
+ * plan are read, no others.
+ */
+uint32_t kelvrist_page(const uint8_t *job, size_t job_length, const uint8_t *plan, size_t plan_length,
+                       uint8_t *page, size_t page_length);
 
 #ifdef __cplusplus
 }

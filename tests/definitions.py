@@ -1,13 +1,14 @@
 #!/usr/bin/env python3
-"""Holds the definitions of crate etf to the reference on random small jobs, before there is code or proof.
+"""Holds the definitions of crate etf, and of crate gantt the page, to the reference on random small jobs, before there is code or
+proof.
 
     definitions.py [seed=N] [jobs=N]     a random seed, which is printed, and 40 jobs if not told
 
 It copies the definitions, and what they cite in the crates below, to target/definitions: no law, no theorem and no function, so
 that a changed definition can be tried before the laws are mended. Beside them it writes a crate `held` with a theorem a job, each
 by computing the definitions: the plan, its end, C, the dearest chain, each result's time and the dearest, the rounds, the arrivals
-and the square of costs, and the checker's answers to some plans. `rt dev` then says which do not hold. What is expected is by the
-reference alone, tests/rules.py.
+and the square of costs, the checker's answers to some plans, and the pages of those that are good. `rt dev` then says which do not
+hold. What is expected is by the reference alone, tests/rules.py.
 
 Status 1: the definitions and the reference differ. Status 2: they cannot be compared, as a definition does not check.
 """
@@ -25,12 +26,12 @@ from kelvrist.crates import Crates, kept, rt, sources  # noqa: E402
 from kelvrist.inout import Trouble  # noqa: E402
 
 FOLDER = TOP / "target" / "definitions"
-CRATE = "etf"
-MODULES = "Instance Schedule Rule Cover Dearest Checker Topology OfJob".split()  # those of CRATE; what they cite is found
+CRATE, PAGE = "etf", "gantt"  # the second is above the first
+MODULES = {CRATE: "Instance Schedule Rule Cover Dearest Checker Topology OfJob", PAGE: "Page"}  # what they cite is found
 CITED = re.compile(r"^(?:pub )?use Rattle·(\w+?)(?:·specs)?\.specs\.([\w.]+)\.\{", re.M)
 COMPUTES, SHORT = re.compile(r"^ *unfoldable pub (\S+) :", re.M), re.compile(r"^ *abbrev pub (\S+) :", re.M)
 RESULTS = "resultOf resultTime dearestResult end".split()  # brought in where they only abbreviate, too
-OWN = "none some bind orElse refl map flatMap getD tasks finish wire link result job numberOf seen checked".split()  # those of HEAD
+OWN = "none some bind orElse refl map flatMap getD tasks finish wire link result job numberOf seen checked drawn".split()  # of HEAD
 HEAD = """-- Made by tests/definitions.py.
 use mathlib.Core.Option.{{Option, none, some, bind, orElse}}
 use mathlib.Core.Path.{{_≡_, refl}}
@@ -72,6 +73,9 @@ seen I r =
 
 checked : Instance → List ℕ → List ℕ → ℕ
 checked I ps ss = numberOf (check I (scheduleOf I (λ T. getD ps T 0) (λ T. getD ss T 0)))
+
+drawn : Instance → List ℕ → List ℕ → List ℕ
+drawn I ps ss = page I (scheduleOf I (λ T. getD ps T 0) (λ T. getD ss T 0))
 """
 
 
@@ -79,7 +83,7 @@ checked I ps ss = numberOf (check I (scheduleOf I (λ T. getD ps T 0) (λ T. get
 
 def cited(crates):
     """The text of each module that the definitions are made of, by crate and name: those that hold them and all that these cite."""
-    found, todo = {}, [(CRATE, module) for module in MODULES]
+    found, todo = {}, [(crate, module) for crate, modules in MODULES.items() for module in modules.split()]
     while todo:
         crate, module = todo.pop()
         if (crate, module) in found or module.startswith("declared."):  # what is declared in src/ has no file
@@ -92,13 +96,14 @@ def cited(crates):
     return found
 
 
-def write_crate(crates, crate, modules):
-    """A crate with these modules alone: the types of its source, no function, no law."""
+def write_crate(crates, crate, modules, left):
+    """A crate with these modules alone: the types of its source, no function, no law, and nothing of the crates that are left out."""
     place, listed = FOLDER / "crates" / crate, {}
     (place / "src").mkdir(parents=True)
+    unused = ("ghost use", *(f"use {other}::" for other in left))
     for file in sources(crates.folder(crate)):
         lines = kept(file, set()).splitlines(True)
-        (place / "src" / file.name).write_text("".join(line for line in lines if not line.startswith("ghost use")))
+        (place / "src" / file.name).write_text("".join(line for line in lines if not line.startswith(unused)))
     for module in modules:
         parts = module.split(".")
         for depth, part in enumerate(parts):
@@ -160,8 +165,10 @@ def some_results(dice, job):
 
 
 def some_plans(dice, job, plan):
-    """The planner's plan, and some like it with a board or a start changed."""
+    """The planner's plan, all of it later, by which w of its page changes, and some like it with a board or a start changed."""
     yield list(plan.board), list(plan.start)
+    ticks = max(0, dice.choice((64, 65, 127, 128, 129, 192)) - plan.last)
+    yield list(plan.board), [start + ticks for start in plan.start]
     for _ in range(4):
         boards, starts = list(plan.board), list(plan.start)
         for _ in range(dice.randint(1, 2)):
@@ -192,24 +199,30 @@ def theorem(i, dice, names):
         found.append(answer)
         text += [f"check-{i}-{k} : checked (instance job-{i}) {numbers(boards)} {numbers(starts)} ≡ {answer}"]
         text += [f"unfolding checked orElse {names}", f"check-{i}-{k} = refl", ""]
+        if answer == 0:
+            page = " ++ ".join(f'text "{row}\\n"' for row in rules.page(job, boards, starts).decode().splitlines())
+            text += [f"page-{i}-{k} : drawn (instance job-{i}) {numbers(boards)} {numbers(starts)} ≡ {page}"]
+            text += [f"unfolding drawn flatMap {names}", f"page-{i}-{k} = refl", ""]
     return "\n".join(text), found
 
 
 def write(count, dice):
     """Writes the crates. Gives how many lines of Held.antt stand before its theorems, and the answers that the plans get."""
     crates = Crates()
-    needed = [*crates.below(CRATE), CRATE]
     modules = cited(crates)
-    uses, names = brought_in(modules)
-    head = HEAD.format(uses="\n".join(uses))
+    needed = [crate for crate in [*crates.below(PAGE), PAGE] if any(crate == of for of, _ in modules)]
+    left = [crate for crate in crates.line if crate not in needed]
+    lines, names = brought_in(modules)
+    head = HEAD.format(uses="\n".join(lines))
     theorems = [theorem(i, dice, " ".join(names)) for i in range(count)]
     shutil.rmtree(FOLDER / "crates", ignore_errors=True)
     for crate in needed:
-        write_crate(crates, crate, {module: text for (of, module), text in modules.items() if of == crate})
+        write_crate(crates, crate, {module: text for (of, module), text in modules.items() if of == crate}, left)
     held = FOLDER / "crates" / "held"
     for folder in (held / "src", held / "specs"):
         folder.mkdir(parents=True)
-    (FOLDER / "crates.txt").write_text("".join(crates.line[crate] + "\n" for crate in needed) + f"held: {' '.join(needed)}\n")
+    uses = {crate: [used for used in crates.uses[crate] if used not in left] for crate in needed}
+    (FOLDER / "crates.txt").write_text("".join(f"{crate}: {' '.join(used)}\n" for crate, used in {**uses, "held": needed}.items()))
     (held / "src" / "lib.rt").write_text("// No functions.\n")
     (held / "specs" / "Lib.antt").write_text("pub mod Held\n")
     (held / "specs" / "Held.antt").write_text(head + "\n" + "\n".join(text for text, _ in theorems))

@@ -4,12 +4,15 @@
     examples.py
 
 Of each example: its text makes its job file, the job file's text makes it again, the reference prints its plan, and the chart
-is well-formed and has a box for each step and a mark for each result. docs/plan.svg is what tools/gantt draws. A table of bad
-texts and bad files has the message that each gets. On random files tools/job refuses as the reference does, tools/gantt has the
-reference's end, and its walk the reference's cover for its sum. The first thing that differs is printed, with status 1.
+is well-formed and has a box for each step and a mark for each result. docs/plan.svg is what tools/gantt draws, and the pages in
+README.md, docs/page.1 and crates/page/stdout are the reference's of its plans. A table of bad texts and bad files has the message
+that each gets. On random files tools/job refuses as the reference does, tools/gantt has the reference's end, and its walk the
+reference's cover for its sum. The first thing that differs is printed, with status 1.
 """
+import re
 import subprocess
 import sys
+import textwrap
 import xml.etree.ElementTree as Xml
 from pathlib import Path
 
@@ -25,7 +28,13 @@ from vectors.dice import Dice  # noqa: E402
 EXAMPLES = TOP / "examples"
 NAMES = ["a", "cube16", "forkjoin", "greatest", "postponed", "results", "ring", "wires"]
 PICTURE = "forkjoin"  # the example that docs/plan.svg shows
+RUN = "cube16"  # the example that the gate runs program `page` on
 FILES = 300
+# Where pages of examples stand: the file, how an example and its page are found there, how far it is indented, and the examples.
+PAGES = [
+    ("README.md", r"`make page JOB=examples/(\w+)\.job` prints[^`]*```\n(.*?)```\n", "", [PICTURE]),
+    ("docs/page.1", r"^    \$ page < examples/(\w+)\.job\n(.*?)^\.EE\n", "    ", ["a", "results"]),
+]
 SVG = "{http://www.w3.org/2000/svg}"
 
 # Each rule of a text once: the text, the line and the message.
@@ -198,6 +207,25 @@ def due_marks(job):
         yield f"result of step {step}: {messages}, from board {plan.board[step]} at {finish} to board 0 at {finish + time}"
 
 
+def page_of(name):
+    """The reference's page of an example's plan."""
+    job = rules.read((EXAMPLES / f"{name}.job").read_bytes())
+    plan = rules.plan(job)
+    return rules.page(job, plan.board, plan.start).decode()
+
+
+def hold_pages():
+    """The pages that are shown to fitters, and the one that the program is to print in the gate, byte for byte."""
+    for file, pattern, indent, names in PAGES:
+        shown = re.findall(pattern, (TOP / file).read_text(), re.S | re.M)
+        hold(f"the examples with a page in {file}", [name for name, _ in shown], names)
+        for name, page in shown:
+            hold(f"the page of {name} in {file}", page, textwrap.indent(page_of(name), indent))
+    crate = TOP / "crates" / "page"
+    hold("crates/page/stdin", (crate / "stdin").read_bytes(), (EXAMPLES / f"{RUN}.job").read_bytes())
+    hold("crates/page/stdout", (crate / "stdout").read_text(), page_of(RUN))
+
+
 def hold_texts():
     for text, line, message in BAD_TEXTS:
         try:
@@ -287,6 +315,7 @@ def main():
         hold("the examples", sorted(file.stem for file in EXAMPLES.glob("*.txt")), NAMES)
         for name in NAMES:
             hold_example(name)
+        hold_pages()
         hold_texts()
         hold_files()
         walked = hold_walks()
@@ -294,7 +323,8 @@ def main():
     except Differs as trouble:
         print(f"examples: FAILED: {trouble}")
         return 1
-    print(f"examples: {len(NAMES)} jobs with text, plan and chart, {len(BAD_TEXTS)} bad texts, {len(BAD_FILES)} bad files, "
+    pages = 1 + sum(len(names) for *_, names in PAGES)
+    print(f"examples: {len(NAMES)} jobs with text, plan and chart, {pages} pages, {len(BAD_TEXTS)} bad texts, {len(BAD_FILES)} bad files, "
           f"{FILES} random files, {walked} walks: 0 differ")
     return 0
 

@@ -33,6 +33,8 @@ def split(cases):
 
 def before_the_file(kind, body):
     """The bytes before the job file in the body of a case, as tests/vectors/entries.py lays it out."""
+    if kind in "dg":  # after the buffer's length and fill as a case of the checker
+        return 3 + before_the_file({"d": "c", "g": "b"}[kind], body[3:])
     first, second = etf.number(body[0:2]), etf.number(body[2:4])
     before = {"r": 0, "p": 15, "s": 3, "t": 1, "c": 4 + 4 * first + second, "b": 2 + first}
     if kind not in before:
@@ -41,14 +43,15 @@ def before_the_file(kind, body):
 
 
 def asked(cases):
-    """Each job file with no plan, and each plan of a case `b` with its job file; nothing twice. A case of the writer has no file."""
+    """Each job file with no plan, and each plan of a case `b` or `g` with its job file; nothing twice. A case of the writer has no
+    file."""
     found = {}
     for kind, body in split(cases):
         if kind not in "wvu":
             at = before_the_file(kind, body)
             found[body[at:], None] = True
-            if kind == "b":
-                found[body[at:], body[2:at]] = True
+            if kind in "bg":
+                found[body[at:], body[2 if kind == "b" else 5 : at]] = True
     return list(found)
 
 

@@ -9,9 +9,9 @@ from types import ModuleType
 sys.path.insert(0, str(Path(__file__).resolve().parent / "reference"))
 import requests  # noqa: E402
 from requests import LATEST_START, Job, Refused, pairs_due, plain, read, report, square, write  # noqa: E402,F401
-from requests import bundle, check, cost, cover, dearest, dearest_result, hops, plan, result_times  # noqa: E402,F401
+from requests import bundle, check, cost, cover, dearest, dearest_result, hops, page, page_length, plan, result_times  # noqa: E402,F401
 
-LANDED = (1, 2)
+LANDED = (1, 2, 3)
 requests.set_in_force(LANDED)
 
 
@@ -31,6 +31,16 @@ def last_steps(job):
     """The steps with no successor: those that may have a result."""
     sending = {start for start, _, _ in job.links}
     return [step for step in range(len(job.steps)) if step not in sending]
+
+
+def page_report(data):
+    """What program `page` prints for a job's bytes: the page of the planner's plan, or a refusal as program `plan` prints it."""
+    try:
+        job = read(data)
+    except Refused as refused:
+        return f"refused {refused.number}\n"
+    made = plan(job)
+    return page(job, made.board, made.start).decode()
 
 
 def number(data):

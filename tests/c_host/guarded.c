@@ -1,4 +1,4 @@
-/* The two calls. What is lent stands between guard bytes in a field of fill bytes; after the call every byte
+/* The three calls. What is lent stands between guard bytes in a field of fill bytes; after the call every byte
  * that it may not alter is held to what it was. */
 #include <string.h>
 
@@ -14,6 +14,7 @@ struct field {
 
 static struct field jobs = {.name = "job"};
 static struct field plans = {.name = "plan"};
+static struct field pages = {.name = "page"};
 
 static uint8_t *lay(struct field *field, const uint8_t *bytes, size_t length)
 {
@@ -63,6 +64,23 @@ uint32_t call_check(const struct file *file, const struct plan *plan)
     return answer;
 }
 
+/* Draws into a buffer of the page's length, which holds fill bytes before. */
+uint32_t call_page(const struct file *file, const struct plan *plan, uint32_t processors, struct page *page)
+{
+    memset(page->bytes, fill, sizeof page->bytes);
+    uint8_t *job = lay(&jobs, file->bytes, file->length);
+    uint8_t *handed = lay(&plans, plan->bytes, plan->length);
+    uint8_t *lent = lay(&pages, page->bytes, page->length);
+    uint32_t answer = kelvrist_page(job, file->length, handed, plan->length, lent, page->length);
+
+    calls++;
+    unaltered("kelvrist_page", &jobs, 0);
+    unaltered("kelvrist_page", &plans, 0);
+    unaltered("kelvrist_page", &pages, answer == 0 ? ROW * (size_t)processors : 0);
+    memcpy(page->bytes, lent, page->length);
+    return answer;
+}
+
 void want_plan(const struct file *file, size_t tasks, struct plan *plan, uint32_t answer)
 {
     uint32_t got = call_plan(file, tasks, plan);
@@ -77,4 +95,12 @@ void want_check(const struct file *file, const struct plan *plan, uint32_t answe
 
     if (got != answer)
         fail("kelvrist_check returns %u where %u is due", got, answer);
+}
+
+void want_page(const struct file *file, const struct plan *plan, uint32_t processors, struct page *page, uint32_t answer)
+{
+    uint32_t got = call_page(file, plan, processors, page);
+
+    if (got != answer)
+        fail("kelvrist_page returns %u where %u is due", got, answer);
 }

@@ -9,8 +9,10 @@
 
 enum { FLAT = 0, CUBE = 1, RING = 2, WIRES = 3 };
 
-/* Room for a job's bytes, also of a job with a record too many, and for a plan's. */
-enum { FILE_ROOM = KELVRIST_JOB_BYTES + 64, PLAN_ROOM = KELVRIST_PLAN_BYTES + 64 };
+/* Room for a job's bytes, also of a job with a record too many, for a plan's and for a page's. */
+enum { FILE_ROOM = KELVRIST_JOB_BYTES + 64, PLAN_ROOM = KELVRIST_PLAN_BYTES + 64, PAGE_ROOM = KELVRIST_PAGE_BYTES + 64 };
+
+enum { ROW = 70 };  /* the bytes of a page's row */
 
 /* A job held as numbers, good or bad. With WIRES, costs[p][q] is that of the wire from p to q. The message count of task t's
  * result is results[t], 0 where it has none. */
@@ -27,7 +29,7 @@ struct job {
     uint32_t results[KELVRIST_TASKS];
 };
 
-/* The bytes of a job, and of a plan. */
+/* The bytes of a job, of a plan and of a page. */
 struct file {
     size_t length;
     uint8_t bytes[FILE_ROOM];
@@ -36,6 +38,11 @@ struct file {
 struct plan {
     size_t length;
     uint8_t bytes[PLAN_ROOM];
+};
+
+struct page {
+    size_t length;
+    uint8_t bytes[PAGE_ROOM];
 };
 
 /* main.c: what is under test, for the message of a failure; a failure ends the program. */
@@ -60,11 +67,19 @@ uint32_t start_in(const struct plan *plan, size_t task);
 /* judge.c: whether a plan is good for a job, by the documents and without the library. */
 uint32_t judge(const struct job *job, const struct plan *plan);
 
-/* guarded.c: the two calls, with guard bytes around what is lent. */
+/* draw.c: the page of a good plan for a job, by the documents and without the library. */
+struct page page_of(const struct job *job, const struct plan *plan);
+
+/* guarded.c: the three calls, with guard bytes around what is lent. */
 uint32_t call_plan(const struct file *file, size_t tasks, struct plan *plan);
 uint32_t call_check(const struct file *file, const struct plan *plan);
+uint32_t call_page(const struct file *file, const struct plan *plan, uint32_t processors, struct page *page);
 void want_plan(const struct file *file, size_t tasks, struct plan *plan, uint32_t answer);
 void want_check(const struct file *file, const struct plan *plan, uint32_t answer);
+void want_page(const struct file *file, const struct plan *plan, uint32_t processors, struct page *page, uint32_t answer);
+
+/* pages.c: the page of a plan for a job, which gets this answer, with buffers of the length and a byte less. */
+void want_drawn(const struct job *job, const struct file *file, const struct plan *plan, uint32_t answer);
 
 /* The groups. */
 void worked_cases(void);
@@ -76,6 +91,7 @@ void order_of_refusals(void);
 void refused_jobs(void);
 void ends_of_ranges(void);
 void plan_buffers(void);
+void pages_drawn(void);
 void bytes_unread(void);
 
 #endif

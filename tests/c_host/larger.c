@@ -62,18 +62,26 @@ static const struct shape {
     void (*make)(struct job *);
 } shapes[] = {{"chain", chain}, {"fork and join", fork_join}, {"greatest", greatest}, {"no edges", no_edges}};
 
-/* The library's answer to the plan with one placement changed is the judge's. */
+/* The library's answers to the plan with one placement changed are the judge's. */
+static void same_answers(const struct job *job, const struct file *file, const struct plan *plan)
+{
+    uint32_t answer = judge(job, plan);
+
+    want_check(file, plan, answer);
+    want_drawn(job, file, plan, answer);
+}
+
 static void same_judgement(const struct job *job, const struct file *file, const struct plan *plan)
 {
     for (size_t t = 0; t < job->tasks; t += 15) {
         struct plan other = *plan;
         uint32_t p = processor_in(plan, t), s = start_in(plan, t);
         place(&other, t, p, s - 1);
-        want_check(file, &other, judge(job, &other));
+        same_answers(job, file, &other);
         place(&other, t, p, s + 1);
-        want_check(file, &other, judge(job, &other));
+        same_answers(job, file, &other);
         place(&other, t, (p + 1) % job->processors, s);
-        want_check(file, &other, judge(job, &other));
+        same_answers(job, file, &other);
     }
 }
 
@@ -87,6 +95,7 @@ static struct plan planned(const struct job *job)
     if (trouble != 0)
         fail("the host's judge finds trouble %u in the plan", trouble);
     want_check(&file, &plan, 0);
+    want_drawn(job, &file, &plan, 0);
     same_judgement(job, &file, &plan);
     return plan;
 }

@@ -1,4 +1,4 @@
-/* The C host: calls the planner and the checker as the station controller does, from C, on the documents' cases and others.
+/* The C host: calls planner, checker and page as the station controller does, from C, on the documents' cases and others.
  * Each group runs with two fill bytes, so that a byte written where none is due cannot look like what was there. */
 #include <stdarg.h>
 #include <stdio.h>
@@ -19,6 +19,7 @@ static const struct group {
     {"refused jobs", refused_jobs},
     {"ends of ranges", ends_of_ranges},
     {"plan buffers", plan_buffers},
+    {"pages", pages_drawn},
     {"bytes unread", bytes_unread},
 };
 

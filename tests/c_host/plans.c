@@ -109,7 +109,7 @@ static const struct handed_in meetings[] = {
     {"12 of the last two, 13 of both edges", &three_send, {{0, 0}, {1, 2}, {1, 3}}, 12},
 };
 
-/* The library's answer, with no bytes past the plan and with some, which are not read; and the judge's. */
+/* The library's answer, with no bytes past the plan and with some, which are not read, by checker and page; and the judge's. */
 static void hand_in(const struct handed_in *given)
 {
     static const size_t past[] = {0, 1, 7};
@@ -123,6 +123,7 @@ static void hand_in(const struct handed_in *given)
         for (size_t t = 0; t < given->job->tasks; t++)
             place(&plan, t, given->plan[t].processor, given->plan[t].start);
         want_check(&file, &plan, given->answer);
+        want_drawn(given->job, &file, &plan, given->answer);
         if (judge(given->job, &plan) != given->answer)
             fail("the host's judge says %u where %u is due", judge(given->job, &plan), given->answer);
     }
@@ -139,6 +140,7 @@ static void short_plans(const struct job *job, uint32_t processor)
     for (plan.length = 0; plan.length < 5 * job->tasks; plan.length++) {
         testing("%zu tasks on processor %u, a plan of %zu bytes", job->tasks, processor, plan.length);
         want_check(&file, &plan, 9);
+        want_drawn(job, &file, &plan, 9);
     }
 }
 

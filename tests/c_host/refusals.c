@@ -1,4 +1,4 @@
-/* Jobs that are refused, by either call and whatever is lent for the plan; the ends of each range; plan buffers. */
+/* Jobs that are refused, by each call and whatever is lent for plan and page; the ends of each range; plan buffers. */
 #include <string.h>
 
 #include "host.h"
@@ -120,6 +120,10 @@ static void want_refused(const struct file *file, uint32_t answer)
         struct plan plan = {.length = lengths[i]};
         want_plan(file, 0, &plan, answer);
         want_check(file, &plan, answer);
+        for (size_t length = 0; length <= KELVRIST_PAGE_BYTES; length += KELVRIST_PAGE_BYTES / 2) {
+            struct page page = {.length = length};
+            want_page(file, &plan, 0, &page, answer);
+        }
     }
 }
 
@@ -198,6 +202,8 @@ void refused_jobs(void)
         fail("it has %zu bytes", file.length);
     want_plan(&file, 256, &plan, 0);
     want_check(&file, &plan, 0);
+    struct page page = {.length = KELVRIST_PAGE_BYTES};
+    want_page(&file, &plan, 16, &page, 0);
     testing("a byte after the greatest job");
     put_byte(&file, 4);
     want_refused(&file, 8);

@@ -1,12 +1,12 @@
 #!/usr/bin/env python3
-"""Holds the two calls of libkelvrist.a and the cover call of libtiming.a to the reference, tests/rules.py, on random jobs and
-plans; the cover call also on the files among the cases of crate vectors.
+"""Holds the three calls of libkelvrist.a, and the cover call and the page of libtiming.a, to the reference, tests/rules.py, on
+random jobs and plans; the cover call also on the files among the cases of crate vectors.
 
     differential.py [seed=N] [jobs=N] [only=N] [library=FILE] [timing=FILE]
 
 A random seed, which is printed, and 5,000 jobs if not told. A difference prints the seed, the job's number and its bytes, and
-ends the program; only=N runs that job alone, jobs=0 the cases alone. library=FILE takes another archive for planner and checker,
-timing=FILE another for the cover call, to see that a wrong one is caught.
+ends the program; only=N runs that job alone, jobs=0 the cases alone. library=FILE takes another archive for planner, checker and
+the page of a plan's bytes, timing=FILE another for the cover call and the page of a plan's slices, to see that a wrong one is caught.
 """
 import random
 import struct
@@ -38,11 +38,11 @@ def as_words(numbers):
 
 
 class File:
-    """A job's bytes and what the reference says of them: a refusal's number, or 0, the job, its plan and what the cover call
-    writes to the front of each slice."""
+    """A job's bytes and what the reference says of them: a refusal's number, or 0, the job, its plan, what the cover call writes to
+    the front of each slice, and the pages of plans that were asked for."""
 
     def __init__(self, data):
-        self.data, self.refusal, self.job, self.plan, self.covered = data, 0, None, [], []
+        self.data, self.refusal, self.job, self.plan, self.covered, self.pages = data, 0, None, [], [], {}
         try:
             self.job = rules.read(data)
         except rules.Refused as refused:
@@ -61,6 +61,26 @@ class File:
         """The answer of the cover call by the places of its slices."""
         return self.refusal or (9 if min(starts, processors) < len(self.plan) or scratch < SCRATCH or output < 2 else 0)
 
+    def page_length(self):
+        return rules.page_length(self.job.boards) if self.job else 0
+
+    def drawn(self, starts, processors, room):
+        """The answer to a plan in slices, with a buffer of so many bytes, and the page; a page of the length is worked out once."""
+        if self.refusal:
+            return self.refusal, b""
+        given = tuple(starts), tuple(processors), min(room, self.page_length())
+        if given not in self.pages:
+            try:
+                self.pages[given] = 0, rules.page(self.job, processors, starts, room)
+            except rules.Refused as refused:
+                self.pages[given] = refused.number, b""
+        return self.pages[given]
+
+
+def in_slices(rows):
+    """The starts and the processors of a plan."""
+    return [start for _, start in rows], [p for p, _ in rows]
+
 
 def some_rooms(dice, m):
     """Places of starts, processors, scratch and output: just enough, more, then too few in one slice after the other."""
@@ -77,6 +97,7 @@ class Held:
     def __init__(self, schedule, timing):
         self.schedule, self.timing = schedule, timing
         self.plan_answers, self.check_answers, self.cover_answers = Counter(), Counter(), Counter()
+        self.page_answers, self.draw_answers = Counter(), Counter()
 
     def plan(self, file, room, fill):
         due = file.answer(room)
@@ -91,8 +112,8 @@ class Held:
     def check(self, file, handed, fill):
         due = file.answer(len(handed))
         if due == 0:
-            plan = as_plan(handed, len(file.plan))
-            due = rules.check(file.job, [p for p, _ in plan], [start for _, start in plan])
+            starts, processors = in_slices(as_plan(handed, len(file.plan)))
+            due = rules.check(file.job, processors, starts)
         answer = self.schedule.check(file.data, handed, fill)
         if answer != due:
             raise Differs(f"kelvrist_check of the plan [{handed.hex()}] returns {answer}, the reference says {due}")
@@ -112,6 +133,51 @@ class Held:
                 raise Differs(f"timing_cover with {rooms} places returns {answer} and leaves {found} at place {at // width} of the {name}, "
                               f"the reference says {told}")
         self.cover_answers[answer] += 1
+
+    def page(self, file, handed, room, fill):
+        due = file.answer(len(handed)), b""
+        if due[0] == 0:
+            due = file.drawn(*in_slices(as_plan(handed, len(file.plan))), room)
+        self.same_page(f"kelvrist_page of the plan [{handed.hex()}]", self.schedule.page(file.data, handed, room, fill), due, room, fill)
+        self.page_answers[due[0]] += 1
+
+    def draw(self, file, starts, processors, room, fill):
+        due = file.drawn(starts, processors, room)
+        found = self.timing.draw(file.data, as_words(starts), bytes(processors), room, fill)
+        self.same_page(f"timing_draw of the starts {starts} and the processors {processors}", found, due, room, fill)
+        self.draw_answers[due[0]] += 1
+
+    def same_page(self, call, found, due, room, fill):
+        """Holds an answer and the buffer afterwards to those that are due."""
+        (answer, after), (number, page) = found, due
+        if answer != number:
+            raise Differs(f"{call} with {room} bytes returns {answer}, the reference says {number}")
+        left = page + bytes([fill]) * (room - len(page))
+        if after != left:
+            at = next(at for at in range(room) if after[at] != left[at])
+            raise Differs(f"{call} with {room} bytes returns {answer} and leaves {after[at]:02x} at place {at % 70} of row {at // 70}, "
+                          f"the reference says {left[at]:02x}")
+
+    def drawn(self, dice, file, handed, room):
+        """A plan's page by both calls; now and then a slice has a place less or more."""
+        self.page(file, handed, room, dice.below(256))
+        starts, processors = in_slices(as_plan(handed, len(handed) // 5))
+        turn = dice.below(9)
+        if turn < 2:
+            starts, processors = (starts[:-1], processors) if turn else (starts, processors[:-1])
+        elif turn < 4:
+            starts, processors = starts + [dice.below(2**32)], processors + [dice.below(256)] * dice.below(3)
+        self.draw(file, starts, processors, room, dice.below(256))
+
+    def pages(self, dice, file):
+        """The page of the planner's plan and of four others, in a buffer of the length and in one of another."""
+        plans, length = [bytes(dice.below(9) for _ in range(5 * dice.below(4)))], rules.page_length(dice.between(1, 16))
+        if not file.refusal:
+            others = list(handed_in(dice, file.job, file.plan))
+            plans, length = [others[0], *dice.some(others[1:], 4)], file.page_length()
+        for handed in plans:
+            self.drawn(dice, file, handed, length)
+            self.drawn(dice, file, handed, dice.one_of([length - 1, length - 1, dice.below(length), length + dice.between(1, 9), 1120]))
 
     def covers(self, dice, file):
         for rooms in some_rooms(dice, len(file.plan) or dice.between(1, 256)):
@@ -178,10 +244,12 @@ def main(words):
             file = File(data)
             held.plans(dice, file)
             held.covers(dice, file)
+            held.pages(dice, file)
     except (Differs, library.Altered) as trouble:
         print(f"FAILED: seed {seed}, {name}: {trouble}\njob [{data.hex()}]\nto run it again: seed={seed} {again}")
         return 1
-    answers = {"kelvrist_plan": held.plan_answers, "kelvrist_check": held.check_answers, "timing_cover": held.cover_answers}
+    answers = {"kelvrist_plan": held.plan_answers, "kelvrist_check": held.check_answers, "timing_cover": held.cover_answers,
+               "kelvrist_page": held.page_answers, "timing_draw": held.draw_answers}
     for name, tallied in answers.items():
         print(f"{name} answered {tally(tallied)}")
     print(f"differential: {what}, {sum(sum(tallied.values()) for tallied in answers.values())} calls, 0 differ")

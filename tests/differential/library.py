@@ -1,4 +1,5 @@
-"""The two calls of libkelvrist.a and the cover call of libtiming.a, by ctypes, with guard bytes around what is lent to them."""
+"""The three calls of libkelvrist.a, and the cover call and the page of libtiming.a, by ctypes, with guard bytes around what is lent
+to them."""
 import ctypes
 import shutil
 import subprocess
@@ -35,13 +36,13 @@ class Lent:
 
 
 class Schedule:
-    """The planner and the checker from C."""
+    """The planner, the checker and the page from C."""
 
     CRATE = "kelvrist"
 
     def __init__(self, entries):
         self.entries = entries
-        for entry in (entries.kelvrist_plan, entries.kelvrist_check):
+        for entry in (entries.kelvrist_plan, entries.kelvrist_check, entries.kelvrist_page):
             entry.restype = ctypes.c_uint32
 
     def plan(self, data, room, fill):
@@ -58,16 +59,25 @@ class Schedule:
         plan.back("kelvrist_check", False)
         return answer
 
+    def page(self, data, handed, room, fill):
+        """The answer, and the page's buffer afterwards; it had `room` fill bytes before."""
+        job, plan, page = Lent("job", data, fill), Lent("plan", handed, fill), Lent("page", bytes([fill]) * room, fill)
+        answer = self.entries.kelvrist_page(*job.words(), *plan.words(), *page.words())
+        job.back("kelvrist_page", False)
+        plan.back("kelvrist_page", False)
+        return answer, page.back("kelvrist_page", True)
+
 
 class Timing:
-    """The cover call."""
+    """The cover call, and the page of a plan in slices."""
 
     CRATE = "timing"
     SLICES = {"starts": 4, "processors": 1, "scratch": 4, "output": 4}  # and the bytes of a place
 
     def __init__(self, entries):
         self.entries = entries
-        entries.timing_cover.restype = ctypes.c_uint32
+        for entry in (entries.timing_cover, entries.timing_draw):
+            entry.restype = ctypes.c_uint32
 
     def cover(self, data, rooms, fill):
         """The answer, and the four slices afterwards; they had so many places of fill bytes before."""
@@ -77,6 +87,15 @@ class Timing:
         answer = self.entries.timing_cover(*job.words(), *(word for lent in slices for word in lent.words()))
         job.back("timing_cover", False)
         return answer, [lent.back("timing_cover", True) for lent in slices]
+
+    def draw(self, data, starts, processors, room, fill):
+        """The answer, and the page's buffer afterwards; starts and processors are bytes, 4 and 1 a place."""
+        lent = Lent("job", data, fill), Lent("starts", starts, fill, 4), Lent("processors", processors, fill)
+        page = Lent("page", bytes([fill]) * room, fill)
+        answer = self.entries.timing_draw(*(word for each in lent for word in each.words()), *page.words())
+        for each in lent:
+            each.back("timing_draw", False)
+        return answer, page.back("timing_draw", True)
 
 
 def load(kind, archive, folder):

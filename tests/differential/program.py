@@ -1,14 +1,15 @@
 #!/usr/bin/env python3
-"""Holds program `plan` to the reference, tests/rules.py: byte for byte what it prints, nothing on standard error, exit status 0.
+"""Holds programs `plan` and `page` to the reference, tests/rules.py: byte for byte what they print, nothing on standard error, exit
+status 0.
 
-    program.py [seed=N] [jobs=N] [only=N] [program=FILE]
+    program.py [seed=N] [jobs=N] [only=N] [plan=FILE] [page=FILE]
 
 A random seed, which is printed, and 300 random files, good and damaged, if not told; before them the fixed inputs: the worked
 cases, the examples, the files among the cases of crate vectors, the greatest jobs, and inputs longer than any job, of some
 megabytes too. An input comes from a file, through a pipe, or through a pipe a few bytes at a time. Where it cannot be read, or
 the answer cannot be written, one line on standard error is due. A difference prints the seed, the input and where the outputs
-part, keeps the input in a file and ends the program; only=N runs random file N alone, jobs=0 the fixed inputs alone.
-program=FILE takes another program, to see that a wrong one is caught.
+part, keeps the input in a file and ends the program; only=N runs random file N alone, jobs=0 the fixed inputs alone. plan=FILE and
+page=FILE take other programs, to see that a wrong one is caught.
 """
 import fcntl
 import random
@@ -32,17 +33,18 @@ from vectors.jobs import LONGEST, chain, greatest, greatest_of_all, greatest_val
 from vectors.jobs import costs, tasks_only, with_results, with_some  # noqa: E402
 from vectors.records import END, link, rack, result, step, wire  # noqa: E402
 
-PROGRAM = TOP / "target" / "bin" / "plan"
+PRINTED = {"plan": rules.report, "page": rules.page_report}  # what each program prints for an input, by the reference
+BUILT = TOP / "target" / "bin"
 FOLDER = TOP / "target" / "program"
 JOBS, PIECES, SECONDS = 300, 300, 20
-READ = 16_384  # the bytes that the program reads at most
+READ = 16_384  # the bytes that a program reads at most
 
 
 class Differs(Exception):
-    """The program does not print what the reference does."""
+    """A program does not print what the reference does."""
 
 
-# ---- the ways in which an input comes; each gives what the program prints, what it says on standard error, and its status
+# ---- the ways in which an input comes; each gives what a program prints, what it says on standard error, and its status
 
 def from_file(program, data, dice):
     file = FOLDER / "input"
@@ -173,23 +175,23 @@ def parting(found, due):
     return f"the outputs part at byte {at}, line {line}: {seen}, the reference says {told}"
 
 
-def hold(program, data, ways, dice):
-    """Runs the program on an input in some ways; gives the answer that is due, a plan's without its numbers."""
-    due = rules.report(data).encode()
+def hold(name, program, data, ways, dice):
+    """Runs a program on an input in some ways; gives the answer that is due: the program's name for what it prints of a good job."""
+    due = PRINTED[name](data).encode()
     for way in ways:
-        name = way.__name__.replace("_", " ")
+        said = f"{name}, {way.__name__.replace('_', ' ')}"
         try:
             out, err, status = way(program, data, dice)
         except subprocess.TimeoutExpired:
-            raise Differs(f"{name}: the program has not ended after {SECONDS} seconds")
+            raise Differs(f"{said}: the program has not ended after {SECONDS} seconds")
         if out != due:
-            raise Differs(f"{name}: {parting(out, due)}")
+            raise Differs(f"{said}: {parting(out, due)}")
         if err or status:
-            raise Differs(f"{name}: exit status {status}, standard error {err[:200]!r}")
-    return "plan" if due.startswith(b"plan") else due.decode().strip()
+            raise Differs(f"{said}: exit status {status}, standard error {err[:200]!r}")
+    return due.decode().strip() if due.startswith(b"refused") else name
 
 
-def hold_failures(program):
+def hold_failures(name, program):
     """What cannot be read or written gives one line on standard error, nothing on standard output, and status 0."""
     data = rules.write(next(worked())[1])
     with open("/dev/null", "wb") as unreadable, open("/dev/null", "rb") as unwritable:
@@ -197,17 +199,17 @@ def hold_failures(program):
         write = subprocess.run([program], input=data, stdout=unwritable, stderr=subprocess.PIPE, timeout=SECONDS)
     for what, done in (("read", read), ("write", write)):
         said = done.stderr.decode("latin-1")
-        if done.stdout or done.returncode or not re.fullmatch(f"plan: {what}: [^\n]+\n", said):
-            raise Differs(f"a {what} that fails gives {done.stdout or b''!r}, standard error {said[:200]!r} and exit status {done.returncode}; "
-                          f"due is one line 'plan: {what}: REASON' on standard error, and status 0")
+        if done.stdout or done.returncode or not re.fullmatch(f"{name}: {what}: [^\n]+\n", said):
+            raise Differs(f"{name}, a {what} that fails gives {done.stdout or b''!r}, standard error {said[:200]!r} and exit status "
+                          f"{done.returncode}; due is one line '{name}: {what}: REASON' on standard error, and status 0")
 
 
 def told(words):
     """The words of the command line, by name."""
-    given = {"seed": "", "jobs": "", "only": "", "program": ""}
+    given = {"seed": "", "jobs": "", "only": "", "plan": "", "page": ""}
     for word in words:
         name, _, value = word.partition("=")
-        if name not in given or name != "program" and value and not value.isdigit():
+        if name not in given or name not in PRINTED and value and not value.isdigit():
             sys.exit(__doc__)
         given[name] = value
     return given
@@ -225,36 +227,39 @@ def inputs(seed, given):
         yield f"random file {number}", some_file(dice), [dice.one_of(WAYS)], dice, f"only={number}"
 
 
-def hold_all(program, seed, given):
-    """Holds the program on every input; prints how often each answer came, or the first difference. Gives the exit status."""
-    answers, runs = Counter(), 0
+def hold_all(programs, seed, given):
+    """Holds the programs on every input; prints how often each answer came, or the first difference. Gives the exit status."""
+    answers, runs = {each: Counter() for each in programs}, 0
     name, data, again = "no input or no output", b"", "jobs=0"
     try:
-        hold_failures(program)
+        for each, program in programs.items():
+            hold_failures(each, program)
         for name, data, ways, dice, again in inputs(seed, given):
-            answers[hold(program, data, ways, dice)] += 1
-            runs += len(ways)
+            for each, program in programs.items():
+                answers[each][hold(each, program, data, ways, dice)] += 1
+                runs += len(ways)
     except Differs as trouble:
         kept = FOLDER / f"seed-{seed}-{re.sub('[^a-zA-Z0-9]+', '-', name)}.job"
         kept.write_bytes(data)
         print(f"FAILED: seed {seed}, {name}, {trouble}")
         print(f"the input is in {kept.relative_to(TOP)}; to run it again: seed={seed} {again}")
         return 1
-    print("program: answers " + ", ".join(f"{answer}: {answers[answer]}" for answer in sorted(answers)))
-    print(f"program: {sum(answers.values())} inputs, {runs} runs, 0 differ")
+    for each, came in answers.items():
+        print(f"{each} answered " + ", ".join(f"{answer}: {came[answer]}" for answer in sorted(came)))
+    print(f"program: {sum(came.values())} inputs, {runs} runs, 0 differ")
     return 0
 
 
 def main(words):
     given = told(words)
-    program = Path(given["program"] or PROGRAM).resolve()
+    programs = {name: Path(given[name] or BUILT / name).resolve() for name in PRINTED}
     seed = int(given["seed"] or random.randrange(10**6))
     print(f"program: seed {seed}", flush=True)
     FOLDER.mkdir(parents=True, exist_ok=True)
     try:
-        return hold_all(program, seed, given)
+        return hold_all(programs, seed, given)
     except OSError as trouble:
-        sys.exit(f"program: {program}: {trouble.strerror}")
+        sys.exit(f"program: {trouble.filename}: {trouble.strerror}")
 
 
 if __name__ == "__main__":

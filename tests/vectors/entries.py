@@ -1,5 +1,6 @@
 """A case for each entry above the reader: its body, and the lines that it must give."""
 import rules
+from vectors.plans import as_bytes
 from vectors.told import SCRATCH, digest, told
 
 # Numbers that no planner writes: no planned time passes 460,000,000, and a processor is below 16.
@@ -50,12 +51,34 @@ def plan(cases, data, starts=None, processors=None, scratch=SCRATCH, fills=FILLS
 
 # ---- the checker
 
+def plan_and_file(data, starts, processors):
+    """The body of a case of the checker."""
+    return two(len(starts)) + two(len(processors)) + b"".join(map(four, starts)) + bytes(processors) + data
+
+
 def check(cases, data, starts, processors):
     line = words("plan of", len(starts), len(processors), "check", yes_or(told(data).checked(starts, processors)))
-    cases.add(b"c", two(len(starts)) + two(len(processors)) + b"".join(map(four, starts)) + bytes(processors) + data, line)
+    cases.add(b"c", plan_and_file(data, starts, processors), line)
 
 
-# ---- the station controller's two calls
+# ---- the page
+
+def page_room(data):
+    """The bytes of a page for a file; those of two boards for a refused one."""
+    file = told(data)
+    return rules.page_length(2 if file.refusal else file.job.boards)
+
+
+def draw(cases, data, starts, processors, room=None, fill=FILLS[2]):
+    """The page of a plan, in a buffer of so many bytes: as many as it fills if not told."""
+    room = page_room(data) if room is None else room
+    number, page = told(data).page(starts, processors, room)
+    answer = words("refused", number) if number else words("of", len(page))
+    line = words("page", answer, "past it", digest([fill] * (room - len(page))))
+    cases.add(b"d", two(room) + bytes([fill]) + plan_and_file(data, starts, processors), *page.decode().splitlines(), line)
+
+
+# ---- the station controller's three calls
 
 def station_plan(cases, data, room=None, fill=FILLS[2]):
     """The station's planner, with a plan of so many bytes: as many as it fills if not told."""
@@ -70,6 +93,14 @@ def station_plan(cases, data, room=None, fill=FILLS[2]):
 
 def station_check(cases, data, handed):
     cases.add(b"b", two(len(handed)) + handed + data, words("station plan of", len(handed), "check", told(data).bytes_checked(handed)))
+
+
+def station_page(cases, data, handed, room=None, fill=FILLS[2]):
+    """The station's page, in a buffer of so many bytes: as many as it fills if not told."""
+    room = page_room(data) if room is None else room
+    number, page = told(data).bytes_page(handed, room)
+    body = two(room) + bytes([fill]) + two(len(handed)) + handed + data
+    cases.add(b"g", body, words("station page", number, "leaves", digest(front([fill] * room, list(page)))))
 
 
 # ---- the listing
@@ -97,4 +128,11 @@ def handed(cases, data, rows):
     """A plan, which is a processor and a start for each task, through both checkers."""
     rows = list(rows)
     check(cases, data, [start for _, start in rows], [p for p, _ in rows])
-    station_check(cases, data, b"".join(bytes([p]) + four(start) for p, start in rows))
+    station_check(cases, data, as_bytes(rows))
+
+
+def drawn(cases, data, rows, room=None, fill=FILLS[2]):
+    """The page of such a plan by both calls."""
+    rows = list(rows)
+    draw(cases, data, [start for _, start in rows], [p for p, _ in rows], room, fill)
+    station_page(cases, data, as_bytes(rows), room, fill)

@@ -47,6 +47,20 @@ class Told:
         rows = as_plan(plan, self.tasks)
         return rules.check(self.job, [p for p, _ in rows], [start for _, start in rows])
 
+    def page(self, starts, processors, room):
+        """The refusal's number, or 0, and the page of a plan in a buffer of so many bytes."""
+        try:
+            return self.refusal, b"" if self.refusal else rules.page(self.job, processors, starts, room)
+        except rules.Refused as refused:
+            return refused.number, b""
+
+    def bytes_page(self, plan, room):
+        """The same of the station's page."""
+        if self.refusal or len(plan) < 5 * self.tasks:
+            return self.refusal or 9, b""
+        rows = as_plan(plan, self.tasks)
+        return self.page([start for _, start in rows], [p for p, _ in rows], room)
+
 
 @lru_cache(maxsize=None)
 def told(data):

@@ -26,7 +26,8 @@ pub fn check(file: &[u8], starts: &[u32], processors: &[u8]) {
     show_checked(schedule::check(file, starts, processors));
 }
 
-fn put_starts(body: &[u8], given: usize, starts: &mut [u32])
+// The starts of a body.
+pub fn put_starts(body: &[u8], given: usize, starts: &mut [u32])
     requires { ⌜ (given ≤ length (now starts)) × (4 + 4 * given ≤ length (now body)) ⌝ }
 {
     let mut i: usize = 0;

@@ -1,16 +1,18 @@
-// Puts each case of standard input through a public entry of the job reader, the planner or the listing, and prints what comes of it.
-// tests/make_vectors.py makes the cases and, by the reference, the lines that they must give.
+// Puts each case of standard input through a public entry of the job reader, the planner, the page or the listing, and prints what
+// comes of it. tests/make_vectors.py makes the cases and, by the reference, the lines that they must give.
 //
 // A case is a byte that says what it is for, the length of its body in 2 bytes, and the body. Numbers are little-endian.
 //
-//   r  the job reader                           c  the checker
+//   r  the job reader                           d  the page
 //   w  the job writer                           s  the station's planner
 //   v  the job writer, with wires               b  the station's checker
-//   u  the job writer, with results and wires   t  the listing
-//   p  the planner and the cover call
+//   u  the job writer, with results and wires   g  the station's page
+//   p  the planner and the cover call           t  the listing
+//   c  the checker
 //
 // The body of 'r' is a file; the others' are in the files that run them.
 mod checking;
+mod drawing;
 mod number;
 mod planning;
 mod reading;
@@ -46,11 +48,20 @@ fn run_plan(what: u8, body: &[u8]) {
     if what == b'c' {
         checking::case(body);
     }
+    if what == b'd' {
+        drawing::case(body);
+    }
+}
+
+fn run_station(what: u8, body: &[u8]) {
     if what == b's' {
         station::plan_case(body);
     }
     if what == b'b' {
         station::check_case(body);
+    }
+    if what == b'g' {
+        station::page_case(body);
     }
 }
 
@@ -76,6 +87,7 @@ fn next() -> bool {
     if is_whole {
         run_job(head[0], show::first(&buffer, length));
         run_plan(head[0], show::first(&buffer, length));
+        run_station(head[0], show::first(&buffer, length));
     }
     is_whole
 }

@@ -1,4 +1,4 @@
-// The cases of the two calls of the station controller.
+// The cases of the three calls of the station controller.
 //
 // The planner's case: what it returns and leaves in the plan, and what the checker returns for that. Its body:
 //
@@ -7,6 +7,10 @@
 // The checker's case: what it returns for a plan that is handed in. Its body:
 //
 //   0  length of the plan (2)    2  the plan, then the file
+//
+// The page's case: what it returns for a plan that is handed in, and a digest of the whole buffer. Its body:
+//
+//   0  length of the buffer (2)    2  fill of the buffer    3  the plan and the file, as in a case of the checker
 use crate::number;
 use crate::show;
 
@@ -48,4 +52,28 @@ pub fn check_case(body: &[u8]) {
     show::text(b"station plan of");
     show::word(number::wide(file - 2));
     check(&body[file..], &body[2..file]);
+}
+
+fn page(job: &[u8], plan: &[u8], page: &mut [u8]) {
+    show::text(b"station page");
+    show::word(number::wide32(kelvrist::kelvrist_page(job, plan, page)));
+    show::text(b" leaves");
+    show::byte_digest(page);
+    show::text(b"\n");
+}
+
+pub fn page_case(body: &[u8]) {
+    if body.len() < 5 {
+        return;
+    }
+    let room = number::two(body, 0) as usize;
+    if 1200 < room {
+        return;
+    }
+    let file = 5 + number::two(body, 3) as usize;
+    if body.len() < file {
+        return;
+    }
+    let mut bytes = [body[2]; 1200];
+    page(&body[file..], &body[5..file], &mut bytes[0..room]);
 }
