@@ -209,9 +209,7 @@ def due_marks(job):
 
 def page_of(name):
     """The reference's page of an example's plan."""
-    job = rules.read((EXAMPLES / f"{name}.job").read_bytes())
-    plan = rules.plan(job)
-    return rules.page(job, plan.board, plan.start).decode()
+    return rules.page_report((EXAMPLES / f"{name}.job").read_bytes())
 
 
 def hold_pages():
