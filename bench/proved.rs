@@ -28,7 +28,8 @@ placed!(READ(*const u8, usize, usize): timing_read_at_0, timing_read_at_16, timi
 placed!(COPY(*const u8, usize, *mut u8, usize): timing_copy_at_0, timing_copy_at_16, timing_copy_at_32, timing_copy_at_48);
 placed!(PLAN(*const u8, usize, *mut u8, usize): kelvrist_plan_at_0, kelvrist_plan_at_16, kelvrist_plan_at_32, kelvrist_plan_at_48);
 placed!(CHECK(*const u8, usize, *const u8, usize): kelvrist_check_at_0, kelvrist_check_at_16, kelvrist_check_at_32, kelvrist_check_at_48);
-placed!(PAGE(*const u8, usize, *const u8, usize, *mut u8, usize): kelvrist_page_at_0, kelvrist_page_at_16, kelvrist_page_at_32, kelvrist_page_at_48);
+placed!(PAGE(*const u8, usize, *const u8, usize, *mut u8, usize):
+    kelvrist_page_at_0, kelvrist_page_at_16, kelvrist_page_at_32, kelvrist_page_at_48);
 placed!(COVER(*const u8, usize, *mut u32, usize, *mut u8, usize, *mut u32, usize, *mut u32, usize):
     timing_cover_at_0, timing_cover_at_16, timing_cover_at_32, timing_cover_at_48);
 placed!(DRAW(*const u8, usize, *const u32, usize, *const u8, usize, *mut u8, usize):
