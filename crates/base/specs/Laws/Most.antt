@@ -32,6 +32,14 @@ most-at (suc n) f t h = go (le-or-lt (suc t) (f n)) (λ k. most-at n f t k)
     go (inl k) r = (n, omega arith, k)
     go (inr k) r = let z = r (omega arith) in (z .0, omega (arith, z .1), z .2)
 
+-- a bound on each place is a bound on the greatest
+pub most-below : (n : ℕ) (f : ℕ → ℕ) (b : ℕ) → ((i : ℕ) → i < n → f i ≤ b) → most n f ≤ b
+most-below n f b h = go (le-or-lt (most n f) b)
+  where
+    go : (most n f ≤ b) ⊎ (b < most n f) → most n f ≤ b
+    go (inl k) = k
+    go (inr k) = let z = most-at n f b k in absurd (omega (arith, h (z .0) (z .1), z .2))
+
 pub most-same : (n : ℕ) (f g : ℕ → ℕ) → ((i : ℕ) → i < n → f i ≡ g i) → most n f ≡ most n g
 unfolding most
 most-same zero f g h = refl

@@ -1,6 +1,5 @@
 -- What `draw` learns from the reading and the checker's verdict, and that each of its returns is a row of the definition.
 use mathlib.Core.Bool.{Bool, _&&_}
-use mathlib.Core.Logic.{⊎-elim}
 use mathlib.Core.Path.{_≡_, refl, ap, sym, _∙_}
 use mathlib.Core.List.{List, [], _∷_, _++_, map}
 use Prim.Native.Nat.{ℕ, _+_, _*_, _/_, _^_, _≤_, _<_, max}
@@ -12,9 +11,8 @@ use lib.Seq.{drop-at}
 use Rattle.base.specs.Choice.{pick}
 use Rattle.base.specs.Lists.{_∈_, here, there, upto, any, greatest}
 use Rattle.base.specs.Rows.{most}
-use Rattle.base.specs.Laws.Tests.{le-or-lt}
 use Rattle.base.specs.Laws.Lists.{upto-in, map-in}
-use Rattle.base.specs.Laws.Most.{most-ge, most-at, most-same, greatest-upto}
+use Rattle.base.specs.Laws.Most.{most-ge, most-below, most-same, greatest-upto}
 use Rattle.job.specs.declared.Verdict.the-variants.{Counts, Refused as NotRead}
 use Rattle.job.specs.declared.Reading.{Reading}
 use Rattle.job.specs.Limits.{mostDuration}
@@ -48,10 +46,6 @@ any-map : {A : Type 0} (p : A → Bool) (q : ℕ → Bool) (g : ℕ → A) (l : 
 unfolding any
 any-map p q g [] h = refl
 any-map p q g (T ∷ l) h = rw (h T (here refl), any-map p q g l (λ U k. h U (there k)))
-
-most-below : (k : ℕ) (f : ℕ → ℕ) (b : ℕ) → ((T : ℕ) → T < k → f T ≤ b) → most k f ≤ b
-most-below k f b h =
-    ⊎-elim (λ p. p) (λ p. let z = most-at k f b p in absurd (omega (arith, h (z .0) (z .1), z .2))) (le-or-lt (most k f) b)
 
 -- a page put at the front of a buffer
 with-page : (N n : ℕ) (p q out out′ : List ℕ) → N ≡ n → p ≡ q → out′ ≡ q ++ drop (70 * n) out

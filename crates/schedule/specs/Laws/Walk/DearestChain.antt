@@ -17,7 +17,7 @@ use Rattle.base.specs.Rows.{most}
 use Rattle.base.specs.Laws.Tests.{le-or-lt, eq→eqb, pick-yes}
 use Rattle.base.specs.Laws.Lists.{filter-append, greatest-append}
 use Rattle.base.specs.Laws.Values.{values-snoc}
-use Rattle.base.specs.Laws.Most.{most-ge, most-at, most-same, greatest-upto}
+use Rattle.base.specs.Laws.Most.{most-ge, most-below, most-same, greatest-upto}
 use Rattle.job.specs.Write.{edgeHeld}
 use Rattle.etf.specs.Instance.{Instance, tasks, into}
 use Rattle.etf.specs.Topology.{entry}
@@ -46,15 +46,7 @@ greatest-values {A} f p g (suc l) =
     one true = omega arith
     one false = refl
 
--- a bound on each place is a bound on the greatest
-most-below : (n : ℕ) (f : ℕ → ℕ) (b : ℕ) → ((i : ℕ) → i < n → f i ≤ b) → most n f ≤ b
-most-below n f b h = go (le-or-lt (most n f) b)
-  where
-    go : (most n f ≤ b) ⊎ (b < most n f) → most n f ≤ b
-    go (inl k) = k
-    go (inr k) = let z = most-at n f b k in absurd (omega (arith, h (z .0) (z .1), z .2))
-
--- and so on its multiple
+-- a bound on a multiple of each place is a bound on that of the greatest
 times-most : (w b n : ℕ) (f : ℕ → ℕ) → ((i : ℕ) → i < n → w * f i ≤ b) → w * most n f ≤ b
 unfolding most
 times-most w b zero f h = omega arith
