@@ -1,4 +1,5 @@
 pub mod Cells
+pub mod Busy
 pub mod Layout
 pub mod Rows
 pub mod Marks
