@@ -70,6 +70,10 @@ firstBest b (x ∷ xs) = firstBest (pick (ltb (x .start) (b .start)) x b) xs
 unfoldable pub rowOf : ℕ → List ℕ → List ℕ → ℕ → ℕ → List Pair
 rowOf clock arrivals free k T = values (λ i. pairAt clock arrivals T (getD free i 0)) 0 k
 
+-- the same by the arrival at each processor, wherever it is kept
+unfoldable pub rowBy : ℕ → (ℕ → ℕ) → List ℕ → ℕ → ℕ → List Pair
+rowBy clock arrival free k T = values (λ i. record { start = max clock (arrival (getD free i 0)); task = T; processor = getD free i 0 }) 0 k
+
 -- the waiting count of a placed task
 abbrev pub placedMark : ℕ
 placedMark = 65535

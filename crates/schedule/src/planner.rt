@@ -6,7 +6,7 @@ ghost use Rattle.etf.specs.Bounds.{mostMessageTime, mostFinish};
 ghost use Rattle.schedule.specs.InArrays.{byNumber, instanceIn, Plannable};
 ghost use Rattle.schedule.specs.Call.{called};
 ghost use Rattle.schedule.specs.Pass.{Surveyed, Raised, ToSend, Sent, Skipped, Looked, ToPlace, Placed, placedMark, Room};
-ghost use Rattle.schedule.specs.Pass.{inbox, tables, firstBest, rowOf, noPair, searched, runCall};
+ghost use Rattle.schedule.specs.Pass.{inbox, tables, firstBest, rowOf, rowBy, noPair, searched, runCall};
 
 // A task, a processor and the start that the task would have there; 4294967295 where there is none.
 pub struct Pair {
@@ -28,7 +28,7 @@ pub struct Choice {
 }
 
 // Looks over the processors at the clock: the free ones go to `free`.
-fn survey(busy: &[u32], n: usize, clock: u32, free: &mut [usize]) -> Moment
+pub fn survey(busy: &[u32], n: usize, clock: u32, free: &mut [usize]) -> Moment
     requires { ⌜ (n ≤ 16) × (length (now busy) ≡ 16) × (length (now free) ≡ 16) ⌝ }
     ensures { λ r. ⌜ Surveyed (now (busy .entry)) n clock (now (free .exit)) r ⌝ }
 {
@@ -50,24 +50,24 @@ fn survey(busy: &[u32], n: usize, clock: u32, free: &mut [usize]) -> Moment
     Moment { next, free: count }
 }
 
-// Tries a task on each free processor. Nothing beats a pair that can start at the clock.
-fn try_task(
+// Tries a task on each free processor, by the row of its arrivals. Nothing beats a pair that can start at the clock.
+pub fn try_row(
     task: usize,
     clock: u32,
-    arrivals: &[u32],
+    row: &[u32],
     free: &[usize],
     count: usize,
     leader: Pair,
 ) -> Pair
-    requires { ⌜ (task < 256) × (4096 ≤ length (now arrivals)) × (count ≤ length (now free)) ⌝ }
+    requires { ⌜ (16 ≤ length (now row)) × (count ≤ length (now free)) ⌝ }
     requires { ⌜ ((i : ℕ) → i < count → getD (now free) i 0 < 16) × (clock < leader .start) ⌝ }
-    ensures { λ r. ⌜ r ≡ firstBest leader (rowOf clock (now (arrivals .entry)) (now (free .entry)) count task) ⌝ }
+    ensures { λ r. ⌜ r ≡ firstBest leader (rowBy clock (λ P. getD (now (row .entry)) P 0) (now (free .entry)) count task) ⌝ }
 {
     let mut best = leader;
     let mut i: usize = 0;
     while i < count {
         let p = free[i];
-        let arrival = arrivals[16 * task + p];
+        let arrival = row[p];
         if arrival <= clock {
             return Pair {
                 start: clock,
@@ -85,6 +85,23 @@ fn try_task(
         i += 1;
     }
     best
+}
+
+// Tries a task on each free processor, by its row of the arrivals.
+fn try_task(
+    task: usize,
+    clock: u32,
+    arrivals: &[u32],
+    free: &[usize],
+    count: usize,
+    leader: Pair,
+) -> Pair
+    requires { ⌜ (task < 256) × (4096 ≤ length (now arrivals)) × (count ≤ length (now free)) ⌝ }
+    requires { ⌜ ((i : ℕ) → i < count → getD (now free) i 0 < 16) × (clock < leader .start) ⌝ }
+    ensures { λ r. ⌜ r ≡ firstBest leader (rowOf clock (now (arrivals .entry)) (now (free .entry)) count task) ⌝ }
+{
+    let first = 16 * task;
+    try_row(task, clock, &arrivals[first..], free, count, leader)
 }
 
 // The first pair of smallest start among the ready tasks from `low` on and the free processors.
@@ -162,8 +179,8 @@ fn look(
 }
 
 // Raises the arrivals of a task by what one predecessor sends to it.
-fn raise(arrivals: &mut [u32], task: usize, n: usize, finish: u32, count: u32, row: &[u32])
-    requires { ⌜ (task < 256) × (n ≤ 16) × (4096 ≤ length (now arrivals)) × (length (now row) ≡ 16) ⌝ }
+pub fn raise(arrivals: &mut [u32], task: usize, n: usize, finish: u32, count: u32, row: &[u32])
+    requires { ⌜ (task < 256) × (n ≤ 16) × (16 * task + n ≤ length (now arrivals)) × (length (now row) ≡ 16) ⌝ }
     requires { ⌜ (finish ≤ mostFinish) × ((P : ℕ) → count * getD (now row) P 0 ≤ mostMessageTime) ⌝ }
     ensures { λ _. ⌜ Raised n task finish count (now (row .entry)) (now (arrivals .entry)) (now (arrivals .exit)) ⌝ }
 {
@@ -208,7 +225,7 @@ fn send(
 }
 
 // The first task from `low` on that is not placed; 65535 in place of a waiting count marks a placed one.
-fn skip(waiting: &[u16], low: usize, tasks: usize) -> usize
+pub fn skip(waiting: &[u16], low: usize, tasks: usize) -> usize
     requires { ⌜ (low ≤ tasks) × (tasks ≤ length (now waiting)) ⌝ }
     ensures { λ r. ⌜ Skipped (now (waiting .entry)) (λ i. i) low tasks r ⌝ }
 {
@@ -223,7 +240,7 @@ fn skip(waiting: &[u16], low: usize, tasks: usize) -> usize
 }
 
 // Writes down a placement.
-fn put(
+pub fn put(
     task: usize,
     processor: usize,
     start: u32,

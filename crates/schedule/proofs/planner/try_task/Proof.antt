@@ -1,156 +1,65 @@
--- `planner::try_task`: the loop keeps that the best so far, tried against the processors that are left, gives the answer.
--- Nothing that is left beats a pair that starts at the clock.
-use mathlib.Core.Path.{_≡_, refl, ap, sym, _∙_}
-use mathlib.Core.Logic.{⊎-elim}
+-- `planner::try_task`: the task's row of the arrivals is the part that begins at place 16T.
+use mathlib.Core.Path.{_≡_, refl, ap, _∙_}
 use mathlib.Core.List.{List}
-use Prim.Native.Nat.{ℕ, _+_, _*_, _-_, _≤_, _<_, max}
-use native.Mathlib.Nat.{sub-zero}
-use native.Mathlib.Numerals.{add-one}
+use Prim.Native.Nat.{ℕ, _+_, _*_, _-_, _≤_, _<_}
 use native.Mathlib.Omega.{arith}
 use borrow.Author.Needs.{needs}
-use borrow.Author.Tests.{lt-ltb, le-ltb}
-use lib.Dec.{ltb}
-use lib.ListN.{getD}
-use Rattle.base.specs.Choice.{pick}
-use Rattle.base.specs.Lists.{values}
-use Rattle.base.specs.Laws.Values.{for-values, values-front, values-none}
-use Rattle.schedule.specs.declared.planner.Pair.{Pair}
-use Rattle.schedule.specs.Pass.{pairAt, firstBest, rowOf}
-use Rattle.schedule.specs.Laws.Planner.SearchSteps.{firstBest-stays}
+use lib.ListN.{length, getD, take, drop}
+use lib.Seq.{getD-take, getD-drop}
+use Rattle.schedule.specs.Pass.{pairAt, firstBest, rowOf, rowBy}
+use Rattle.schedule.specs.Laws.Planner.SearchSteps.{rowBy-same}
 use Rattle.schedule.proofs.planner.try_task.Statement.{statement}
 use Rattle.schedule.proofs.planner.try_task.Tie as tie
 
-abbrev pair : ℕ → ℕ → ℕ → Pair
-pair s t p = record { start = s; task = t; processor = p }
+-- what is read off the part of the arrivals that begins with the row
+row-part : (arrivals : List ℕ) (T P : ℕ) → T < 256 → P < 16 → 4096 ≤ length arrivals
+    → getD (take (length arrivals - 16 * T) (drop (16 * T) arrivals)) P 0 ≡ getD arrivals (16 * T + P) 0
+row-part arrivals T P t p room =
+    getD-take (length arrivals - 16 * T) (drop (16 * T) arrivals) P 0 (omega arith) ∙ getD-drop (16 * T) arrivals P 0
 
-module _ (clock : ℕ) (arrivals free : List ℕ) (count task : ℕ) where
-  -- the pairs with the processors from place i on
-  rest : ℕ → List Pair
-  rest i = values (λ j. pairAt clock arrivals task (getD free j 0)) i (count - i)
+in-place : (clock : ℕ) (arrivals free : List ℕ) (k T : ℕ)
+    → rowBy clock (λ P. getD arrivals (16 * T + P) 0) free k T ≡ rowOf clock arrivals free k T
+unfolding rowOf pairAt rowBy
+in-place clock arrivals free k T = refl
 
-  whole : rest 0 ≡ rowOf clock arrivals free count task
-  unfolding rest rowOf
-  whole = rw (sub-zero count)
+row-is : (clock : ℕ) (arrivals free : List ℕ) (k T : ℕ) → T < 256 → 4096 ≤ length arrivals → ((i : ℕ) → i < k → getD free i 0 < 16)
+    → rowBy clock (λ P. getD (take (length arrivals - 16 * T) (drop (16 * T) arrivals)) P 0) free k T ≡ rowOf clock arrivals free k T
+row-is clock arrivals free k T t room low =
+    rowBy-same clock (λ P. getD (take (length arrivals - 16 * T) (drop (16 * T) arrivals)) P 0) (λ P. getD arrivals (16 * T + P) 0)
+    free k T (λ i h. row-part arrivals T (getD free i 0) t (low i h) room)
+    ∙ in-place clock arrivals free k T
 
-  ended : (b : Pair) (i : ℕ) → count ≤ i → firstBest b (rest i) ≡ b
-  unfolding rest firstBest
-  ended b i h = rw (values-none (λ j. pairAt clock arrivals task (getD free j 0)) i count h)
+mul-first : tie.Need-mul-first
+mul-first c = search needs
 
-  module _ (i p : ℕ) (pi : p ≡ getD free i 0) (h : i < count) where
-    -- when what the task waits for is at processor p
-    abbrev arrival : ℕ
-    arrival = getD arrivals (16 * task + p) 0
+mul-try-row : tie.Need-mul-try-row
+mul-try-row c = search needs
 
-    at-clock : arrival ≤ clock → pairAt clock arrivals task (getD free i 0) ≡ pair clock task p
-    unfolding pairAt
-    at-clock k = let e : max clock arrival ≡ clock = omega arith in rw (← pi, e)
+sub-try-row : tie.Need-sub-try-row
+sub-try-row c = search needs
 
-    after-clock : clock < arrival → pairAt clock arrivals task (getD free i 0) ≡ pair arrival task p
-    unfolding pairAt
-    after-clock k = let e : max clock arrival ≡ arrival = omega arith in rw (← pi, e)
+part-try-row-start : tie.Need-part-try-row-start
+part-try-row-start c = search needs
 
-    -- one pair, and the others
-    next : (b x : Pair) → pairAt clock arrivals task (getD free i 0) ≡ x →
-        firstBest b (rest i) ≡ firstBest (pick (ltb (x .start) (b .start)) x b) (rest (i + 1))
-    unfolding rest firstBest
-    next b x e = rw (values-front (λ j. pairAt clock arrivals task (getD free j 0)) i count h, add-one, e)
+part-try-row-end : tie.Need-part-try-row-end
+part-try-row-end c = search needs
 
-    early : (b : Pair) → clock < b .start → arrival ≤ clock → firstBest b (rest i) ≡ pair clock task p
-    unfolding rest pairAt
-    early b l k =
-        next b _ (at-clock k) ∙ rw (lt-ltb clock (b .start) l)
-        (firstBest-stays (pair clock task p) (rest (i + 1))
-        (for-values (λ j. pairAt clock arrivals task (getD free j 0)) (λ x. clock ≤ x .start) (i + 1) (count - (i + 1))
-        (λ n u v. omega arith)))
+try-row-requires : tie.Need-try-row-requires
+try-row-requires c κs = search needs
 
-    -- a turn: with the best so far b, and the answer r
-    module _ (b b′ r : Pair) (l : clock < b .start) (e : firstBest b (rest i) ≡ r) (k : clock < arrival) where
-      sooner : arrival < b .start → b′ ≡ pair arrival task p
-          → (i + 1 ≤ count) × (clock < b′ .start) × (firstBest b′ (rest (i + 1)) ≡ r)
-      sooner s q = rw q (omega arith, k, rw (next b _ (after-clock k), lt-ltb arrival (b .start) s) at e)
-
-      later : b .start ≤ arrival → b′ ≡ b
-          → (i + 1 ≤ count) × (clock < b′ .start) × (firstBest b′ (rest (i + 1)) ≡ r)
-      later s q = rw q (omega arith, l, rw (next b _ (after-clock k), le-ltb arrival (b .start) s) at e)
-
-abbrev Inv-loop : tie.InvT-loop
-Inv-loop task clock arrivals free count best₀ i₀ best i =
-    (i ≤ count) × (clock < best .start)
-    × (firstBest best (rest clock arrivals free count task i) ≡ firstBest best₀ (rowOf clock arrivals free count task))
-
-abbrev μ-loop : tie.MeasureT-loop
-μ-loop task clock arrivals free count best₀ i₀ best i = count - i
-
-loop-holds : tie.Need-loop-holds Inv-loop μ-loop
-loop-holds c = (search needs, search needs, ap (firstBest _) (whole _ _ _ _ _))
-
-mul-p : tie.Need-mul-p Inv-loop μ-loop
-mul-p c = search needs
-
-shared-slice-read-p : tie.Need-shared-slice-read-p Inv-loop μ-loop
-shared-slice-read-p c = search needs
-
-mul-arrival : tie.Need-mul-arrival Inv-loop μ-loop
-mul-arrival c = search needs
-
-add-arrival : tie.Need-add-arrival Inv-loop μ-loop
-add-arrival c =
-    let at-loop = c .before .before in
-    let b = at-loop .before .pre .1 .0 (at-loop .loop .i) (search needs) in
-    search needs
-
-mul-arrival-2 : tie.Need-mul-arrival-2 Inv-loop μ-loop
-mul-arrival-2 c =
-    let at-loop = c .before .before in
-    let b = at-loop .before .pre .1 .0 (at-loop .loop .i) (search needs) in
-    search needs
-
-shared-slice-read-arrival : tie.Need-shared-slice-read-arrival Inv-loop μ-loop
-shared-slice-read-arrival c =
-    let at-loop = c .before .before .before in
-    let b = at-loop .before .pre .1 .0 (at-loop .loop .i) (search needs) in
-    search needs
-
-returns : tie.Need-returns Inv-loop μ-loop
+returns : tie.Need-returns
 returns c =
-    let at-loop = c .before .before .before .before in
-    sym (early _ _ _ _ _ _ _ refl (search needs) _ (at-loop .loop .inv .1) (c .if1 .taken)) ∙ at-loop .loop .inv .2
-
-add-i : tie.Need-add-i Inv-loop μ-loop
-add-i c = search needs
-
-loop-less : tie.Need-loop-less Inv-loop μ-loop
-loop-less c = search needs
-
-loop-again : tie.Need-loop-again Inv-loop μ-loop
-loop-again c =
-    let at-if1 = c .before .before in
-    let at-loop = at-if1 .before .before .before .before in
-    ⊎-elim
-    (λ w. sooner _ _ _ _ _ _ _ refl (search needs) _ _ _ (at-loop .loop .inv .1) (at-loop .loop .inv .2)
-    (at-if1 .if1 .left) (omega (arith, w .0 .taken)) (w .1))
-    (λ w. later _ _ _ _ _ _ _ refl (search needs) _ _ _ (at-loop .loop .inv .1) (at-loop .loop .inv .2)
-    (at-if1 .if1 .left) (omega (arith, w .0 .left)) (w .1))
-    (c .if2 .came)
-
-returns-2 : tie.Need-returns-2 Inv-loop μ-loop
-returns-2 c = sym (ended _ _ _ _ _ _ _ (c .loop-test .left)) ∙ c .before .loop .inv .2
+    let pre = c .before .before .before .before .pre in
+    c .try-row .ensures ∙ ap (firstBest _) (row-is _ _ _ _ _ (pre .0 .0) (pre .0 .1) (pre .1 .0))
 
 pub try-task-spec : {M : Type 1} → statement M
 try-task-spec =
     tie.close
     (tie.spec
-    Inv-loop
-    μ-loop
-    loop-holds
-    mul-p
-    shared-slice-read-p
-    mul-arrival
-    add-arrival
-    mul-arrival-2
-    shared-slice-read-arrival
-    returns
-    add-i
-    loop-less
-    loop-again
-    returns-2)
+    mul-first
+    mul-try-row
+    sub-try-row
+    part-try-row-start
+    part-try-row-end
+    try-row-requires
+    returns)

@@ -2,15 +2,15 @@
 use mathlib.Core.Bool.{Bool, true, false}
 use mathlib.Core.Path.{_≡_, refl}
 use mathlib.Core.List.{List, [], _∷_}
-use Prim.Native.Nat.{ℕ, zero, suc, _-_, _≤_, _<_}
+use Prim.Native.Nat.{ℕ, zero, suc, _+_, _-_, _≤_, _<_}
 use native.Mathlib.Omega.{arith}
 use borrow.Author.Tests.{le-ltb}
 use lib.ListN.{getD}
 use Rattle.base.specs.Choice.{pick}
 use Rattle.base.specs.Lists.{_∈_, here, there}
-use Rattle.base.specs.Laws.Values.{for-values}
+use Rattle.base.specs.Laws.Values.{for-values, values-same}
 use Rattle.schedule.specs.declared.planner.Pair.{Pair}
-use Rattle.schedule.specs.Pass.{pairAt, firstBest, rowOf, canStart, searched}
+use Rattle.schedule.specs.Pass.{pairAt, firstBest, rowOf, rowBy, canStart, searched}
 
 -- ---- the first of smallest start
 
@@ -25,6 +25,18 @@ pub row-late : (clock : ℕ) (arrivals free : List ℕ) (k T : ℕ) (x : Pair) �
 unfolding rowOf pairAt
 row-late clock arrivals free k T =
     for-values (λ i. pairAt clock arrivals T (getD free i 0)) (λ x. clock ≤ x .start) 0 k (λ n p q. omega arith)
+
+-- ---- rows by the arrival at each processor
+
+-- the same arrivals, the same row
+pub rowBy-same : (clock : ℕ) (f g : ℕ → ℕ) (free : List ℕ) (k T : ℕ) → ((i : ℕ) → i < k → f (getD free i 0) ≡ g (getD free i 0))
+    → rowBy clock f free k T ≡ rowBy clock g free k T
+unfolding rowBy
+rowBy-same clock f g free k T h = values-same _ _ 0 k (λ i p q. rw (h i (omega arith)))
+
+pub rowBy-late : (clock : ℕ) (f : ℕ → ℕ) (free : List ℕ) (k T : ℕ) (x : Pair) → x ∈ rowBy clock f free k T → clock ≤ x .start
+unfolding rowBy
+rowBy-late clock f free k T = for-values _ (λ x. clock ≤ x .start) 0 k (λ n p q. omega arith)
 
 -- ---- the search
 
