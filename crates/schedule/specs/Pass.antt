@@ -220,9 +220,9 @@ pub record Room (m : ℕ) (starts processors arrivals : List ℕ) : Type 0 where
   pub for-arrivals : 4096 ≤ length arrivals
   pub zeros : (x : ℕ) → x < 4096 → getD arrivals x 0 ≡ 0
 
--- one of three slices of these lengths is too short for m tasks
-unfoldable pub shortOf : ℕ → ℕ → ℕ → ℕ → Bool
-shortOf m starts processors scratch = ltb starts m || (ltb processors m || ltb scratch 4096)
+-- one of three slices of these lengths is too short for m tasks, and so many places of scratch
+unfoldable pub shortOf : ℕ → ℕ → ℕ → ℕ → ℕ → Bool
+shortOf places m starts processors scratch = ltb starts m || (ltb processors m || ltb scratch places)
 
 -- the plan of an instance laid out, with its last finish
 abbrev pub runCall : Instance → List ℕ → List ℕ → List ℕ → Call ℕ

@@ -63,9 +63,9 @@ pub enum Laid {
     Short,
 }
 
-// Whether a slice is too short, by the lengths of the three: fewer starts or processors than tasks, or fewer than 4,096 places of scratch.
-fn too_short(tasks: usize, starts: usize, processors: usize, scratch: usize) -> bool
-    ensures { λ r. ⌜ r ≡ shortOf tasks starts processors scratch ⌝ }
+// Whether a slice is too short, by the lengths of the three: fewer starts or processors than tasks, or fewer places of scratch than asked.
+fn too_short(tasks: usize, starts: usize, processors: usize, scratch: usize, places: usize) -> bool
+    ensures { λ r. ⌜ r ≡ shortOf places tasks starts processors scratch ⌝ }
 {
     if starts < tasks {
         return true;
@@ -73,16 +73,16 @@ fn too_short(tasks: usize, starts: usize, processors: usize, scratch: usize) -> 
     if processors < tasks {
         return true;
     }
-    scratch < 4096
+    scratch < places
 }
 
-// Sets the first 4,096 places to 0.
-fn clear(scratch: &mut [u32])
-    requires { ⌜ 4096 ≤ length (now scratch) ⌝ }
-    ensures { λ _. ⌜ now (scratch .exit) ≡ filled (λ x. 0) 4096 (now (scratch .entry)) ⌝ }
+// Sets the first places to 0.
+fn clear(scratch: &mut [u32], places: usize)
+    requires { ⌜ places ≤ length (now scratch) ⌝ }
+    ensures { λ _. ⌜ now (scratch .exit) ≡ filled (λ x. 0) places (now (scratch .entry)) ⌝ }
 {
     let mut x: usize = 0;
-    while x < 4096 {
+    while x < places {
         scratch[x] = 0;
         x += 1;
     }
@@ -107,10 +107,10 @@ fn lay_out<'a>(
         (instanceIn (byNumber n tasks edges (now (durations .entry)) (now (from .entry)) (now (to .entry)) (now (counts .entry)) costs))
         (now (starts .entry)) (now (processors .entry)) (now (scratch .entry)) ⌝ }
 {
-    if too_short(tasks, starts.len(), processors.len(), scratch.len()) {
+    if too_short(tasks, starts.len(), processors.len(), scratch.len(), 4096) {
         return Laid::Short;
     }
-    clear(scratch);
+    clear(scratch, 4096);
     Laid::Last(planner::run(
         n,
         tasks,

@@ -14,11 +14,11 @@ more : (old l : List ℕ) (x : ℕ) → l ≡ filled (λ i. 0) x old → x < len
 more old l x e h = ap (λ (s : List ℕ). set s x 0) e ∙ filled-more (λ i. 0) x old h
 
 abbrev Inv-loop : tie.InvT-loop
-Inv-loop scratch₀ x₀ scratch x =
-    (x ≤ 4096) × (4096 ≤ length scratch₀) × (length scratch ≡ length scratch₀) × (scratch ≡ filled (λ i. 0) x scratch₀)
+Inv-loop scratch₀ places x₀ scratch x =
+    (x ≤ places) × (places ≤ length scratch₀) × (length scratch ≡ length scratch₀) × (scratch ≡ filled (λ i. 0) x scratch₀)
 
 abbrev μ-loop : tie.MeasureT-loop
-μ-loop scratch₀ x₀ scratch x = length scratch₀ - x
+μ-loop scratch₀ places x₀ scratch x = length scratch₀ - x
 
 loop-holds : tie.Need-loop-holds Inv-loop μ-loop
 loop-holds c = (search needs, search needs, search needs, sym (filled-none (λ i. 0) _))
@@ -43,7 +43,7 @@ same-length : tie.Need-same-length Inv-loop μ-loop
 same-length c = search needs
 
 returns : tie.Need-returns Inv-loop μ-loop
-returns c = let e : c .before .loop .x ≡ 4096 = omega arith in rw e at (c .before .loop .inv .3)
+returns c = let e : c .before .loop .x ≡ c .before .before .args .places = omega arith in rw e at (c .before .loop .inv .3)
 
 pub clear-spec : {M : Type 1} → statement M
 clear-spec =

@@ -76,13 +76,13 @@ same-end : {d e : ℕ} → Last d ≡ Last e → d ≡ e
 same-end h = cc
 
 -- none of the three slices is too short
-pub long-enough : {m a b c : ℕ} {t : Bool} → t ≡ shortOf m a b c → t ≡ false → (m ≤ a) × (m ≤ b) × (4096 ≤ c)
+pub long-enough : {n m a b c : ℕ} {t : Bool} → t ≡ shortOf n m a b c → t ≡ false → (m ≤ a) × (m ≤ b) × (n ≤ c)
 unfolding shortOf
-long-enough {m} {a} {b} {c} e w = go (ltb a m) refl (ltb b m) refl (ltb c 4096) refl (sym e ∙ w)
+long-enough {n} {m} {a} {b} {c} e w = go (ltb a m) refl (ltb b m) refl (ltb c n) refl (sym e ∙ w)
   where
-    go : (x : Bool) → ltb a m ≡ x → (y : Bool) → ltb b m ≡ y → (z : Bool) → ltb c 4096 ≡ z → x || (y || z) ≡ false
-        → (m ≤ a) × (m ≤ b) × (4096 ≤ c)
-    go false p false q false r h = (ltb-false a m p, ltb-false b m q, ltb-false c 4096 r)
+    go : (x : Bool) → ltb a m ≡ x → (y : Bool) → ltb b m ≡ y → (z : Bool) → ltb c n ≡ z → x || (y || z) ≡ false
+        → (m ≤ a) × (m ≤ b) × (n ≤ c)
+    go false p false q false r h = (ltb-false a m p, ltb-false b m q, ltb-false c n r)
     go true p y q z r h = impossible (sym h)
     go false p true q z r h = impossible (sym h)
     go false p false q true r h = impossible (sym h)
@@ -103,24 +103,24 @@ module _ {A : InArrays} (F : Plannable A) where
 
   module _ (starts processors scratch : List ℕ) where
     -- the test of the lengths, as the definition has it
-    short-is : {t b : Bool} → t ≡ shortOf (A .tasks) (length starts) (length processors) (length scratch) → t ≡ b
-        → tooShort arrivalPlaces (tasks I) starts processors scratch ≡ b
+    short-is : (places : ℕ) {t b : Bool} → t ≡ shortOf places (A .tasks) (length starts) (length processors) (length scratch) → t ≡ b
+        → tooShort places (tasks I) starts processors scratch ≡ b
     unfolding shortOf tooShort
-    short-is e w = rw (held-tasks F) (sym e ∙ w)
+    short-is places e w = rw (held-tasks F) (sym e ∙ w)
 
-    pub laid-short : {t : Bool} → t ≡ shortOf (A .tasks) (length starts) (length processors) (length scratch) → t ≡ true
+    pub laid-short : {t : Bool} → t ≡ shortOf arrivalPlaces (A .tasks) (length starts) (length processors) (length scratch) → t ≡ true
         → called Short starts processors scratch ≡ layCall I starts processors scratch
     unfolding layCall
-    laid-short e w = rw (short-is e w)
+    laid-short e w = rw (short-is arrivalPlaces e w)
 
     -- a plan laid out over a cleared scratch
     pub laid-end : {t : Bool} {r : ℕ} {starts′ processors′ cleared scratch′ : List ℕ}
-        → t ≡ shortOf (A .tasks) (length starts) (length processors) (length scratch) → t ≡ false
+        → t ≡ shortOf arrivalPlaces (A .tasks) (length starts) (length processors) (length scratch) → t ≡ false
         → cleared ≡ filled (λ x. 0) 4096 scratch → called r starts′ processors′ scratch′ ≡ runCall I starts processors cleared
         → called (Last r) starts′ processors′ scratch′ ≡ layCall I starts processors scratch
     unfolding layCall laidOut
     laid-end e w f R =
-        rw (short-is e w)
+        rw (short-is arrivalPlaces e w)
         (ap (λ (c : Call ℕ). called (Last (c .answer)) (c .starts) (c .processors) (c .scratch)) R
         ∙ rw (f, filled-filled (scratchAt I) (λ x. 0) 4096 scratch (long-enough e w .2)))
 
