@@ -3,6 +3,5 @@ pub mod Counting
 pub mod Tally
 pub mod ByPlace
 pub mod Rising
-pub mod Places
-pub mod Grouped
+pub mod Listed
 pub mod ByKey
