@@ -11,6 +11,13 @@ pub fn index(x: u8) -> usize
     x as usize
 }
 
+// A number of 16 bits as a place in an array.
+pub fn index16(x: u16) -> usize
+    ensures { λ r. ⌜ r ≡ x ⌝ }
+{
+    x as usize
+}
+
 // A byte as a number of 32 bits.
 pub fn wide8(x: u8) -> u32
     ensures { λ r. ⌜ (r ≡ x) × (r < 256) ⌝ }

@@ -347,11 +347,13 @@ pub fn run<'a>(
             let finish = pair.start + durations[t];
             let row = costs[p];
             let after = t + 1;
+            let first = base::index16(runs[t]);
+            let last = base::index16(runs[after]);
             low = place(
                 pair,
                 finish,
-                runs[t],
-                runs[after],
+                first,
+                last,
                 low,
                 tasks,
                 n,

@@ -16,7 +16,7 @@ use Rattle.graph.specs.Laws.ByPlace.{counts-at}
 use Rattle.etf.specs.Bounds.{mostFinish}
 use Rattle.schedule.specs.declared.planner.Pair.{Pair}
 use Rattle.schedule.specs.InArrays.{InArrays, byNumber, Plannable}
-use Rattle.schedule.specs.Pass.{Room, tables, inbox}
+use Rattle.schedule.specs.Pass.{Room, Tables, ToPlace, Placed, tables, inbox}
 use Rattle.schedule.specs.Laws.Held.{climb, edges-there}
 use Rattle.schedule.specs.Laws.Planner.Invariant.{Invariant, holds-first, holds-last, more-rounds, clock-small, arrivals-room}
 use Rattle.schedule.specs.Laws.Planner.Invariant.{task-small, processor-small, finish-small, to-place, holds-placed, holds-moved}
@@ -52,6 +52,16 @@ carried : {A : InArrays} {starts₀ processors₀ arrivals₀ : List ℕ}
     → Invariant A starts₀ processors₀ arrivals₀ (tables starts′ processors′ busy′ (inbox arrivals′ waiting′ latest′)) clock′ e′ low′ rounds
 carried g hs hp ha hw hl hb hc he hm = rw (hs, hp, ha, hw, hl, hb, hc, he, hm) g
 
+-- a run of edges by other names of its ends
+module _ {pair : Pair} {finish low m n : ℕ} {row to counts : List ℕ} {S : Tables} {first last first′ last′ : ℕ}
+    (d : first′ ≡ first) (e : last′ ≡ last) where
+  asked-of : ToPlace pair finish first last low m n row to counts S → ToPlace pair finish first′ last′ low m n row to counts S
+  asked-of t = rw (d, e) t
+
+  placed-of : {order : ℕ → ℕ} {S′ : Tables} {r : ℕ} → Placed pair finish first′ last′ low m n order row to counts S S′ r
+      → Placed pair finish first last low m n order row to counts S S′ r
+  placed-of p = rw (d, e) at p
+
 -- ---- the invariant
 
 abbrev Inv-loop : tie.InvT-loop
@@ -83,7 +93,8 @@ module _ (a : tie.At-loop Inv-loop μ-loop) where
 
   -- the edges of each task are one run
   edge-runs : Runs (begun .args .from .now) (begun .args .tasks) (begun .args .edges) (a .before .before .runs .result)
-  edge-runs = runs-of _ _ _ (climb given) (given .few-tasks) (edges-there given .0) (a .before .before .runs .ensures)
+  edge-runs = runs-of _ _ _ (climb given) (given .few-tasks) (edges-there given .0)
+      (omega (arith, given .few-edges)) (a .before .before .runs .ensures)
 
 -- in the loop tasks remain
 module _ (q : tie.In-loop Inv-loop μ-loop) where
@@ -168,43 +179,51 @@ array-copy-out-row c = on-processor (c .before .before)
 add-after : tie.Need-add-after Inv-loop μ-loop
 add-after c = fits-below tt (le-of-lt (next-small _ (small (c .before .before .before))))
 
-mul-place : tie.Need-mul-place Inv-loop μ-loop
-mul-place c = scaled-fits _ 256 8 (small (c .before .before .before)) (lit< tt)
+mul-index16 : tie.Need-mul-index16 Inv-loop μ-loop
+mul-index16 c = scaled-fits _ 256 2 (small (c .before .before .before)) (lit< tt)
 
-array-read-place : tie.Need-array-read-place Inv-loop μ-loop
-array-read-place c = lt-of-lt-of-le (small (c .before .before .before)) (le-of-lt (lit< tt))
+array-read-index16 : tie.Need-array-read-index16 Inv-loop μ-loop
+array-read-index16 c = lt-of-lt-of-le (small (c .before .before .before)) (le-of-lt (lit< tt))
 
-mul-place-2 : tie.Need-mul-place-2 Inv-loop μ-loop
-mul-place-2 c = scaled-fits _ 257 8 (next-small _ (small (c .before .before .before))) (lit< tt)
+index16-requires : tie.Need-index16-requires Inv-loop μ-loop
+index16-requires c κs = search needs
 
-array-read-place-2 : tie.Need-array-read-place-2 Inv-loop μ-loop
-array-read-place-2 c = next-small _ (small (c .before .before .before))
+mul-index16-2 : tie.Need-mul-index16-2 Inv-loop μ-loop
+mul-index16-2 c = scaled-fits _ 257 2 (next-small _ (small (c .before .before .before .before))) (lit< tt)
+
+array-read-index16-2 : tie.Need-array-read-index16-2 Inv-loop μ-loop
+array-read-index16-2 c = next-small _ (small (c .before .before .before .before))
+
+index16-requires-2 : tie.Need-index16-requires-2 Inv-loop μ-loop
+index16-requires-2 c κs = search needs
 
 slice-aggregate-place : tie.Need-slice-aggregate-place Inv-loop μ-loop
 slice-aggregate-place c =
-    let w = c .before .before .before .before in
+    let w = c .before .before .before .before .before .before in
     sym (given (a w) .row-size (pair w .processor) (on-processor w))
 
 slice-aggregate-place-2 : tie.Need-slice-aggregate-place-2 Inv-loop μ-loop
 slice-aggregate-place-2 c =
-    let w = c .before .before .before .before .before .before .before .before in
+    let w = c .before .before .before .before .before .before .before .before .before .before in
     sym (a w .loop .inv .waiting-size)
 
 slice-aggregate-place-3 : tie.Need-slice-aggregate-place-3 Inv-loop μ-loop
 slice-aggregate-place-3 c =
-    let w = c .before .before .before .before .before .before .before .before .before in
+    let w = c .before .before .before .before .before .before .before .before .before .before .before in
     sym (a w .loop .inv .latest-size)
 
 slice-aggregate-place-4 : tie.Need-slice-aggregate-place-4 Inv-loop μ-loop
 slice-aggregate-place-4 c =
-    let w = c .before .before .before .before .before .before .before .before .before .before in
+    let w = c .before .before .before .before .before .before .before .before .before .before .before .before in
     sym (a w .loop .inv .busy-size)
 
 place-requires : tie.Need-place-requires Inv-loop μ-loop
 place-requires c κs =
-    let w = c .before .before .before .before .before .before .before .before .before .before in
+    let last = c .before .before .before .before .before .before .before in
+    let w = last .before .before .before .before .before in
     let a = a w in
-    to-place (given a) (room a) (a .loop .inv) (remain (q w)) (at-look w .look .ensures) (in-time w) (edge-runs a) refl
+    asked-of (last .before .index16 .ensures) (last .index162 .ensures)
+    (to-place (given a) (room a) (a .loop .inv) (remain (q w)) (at-look w .look .ensures) (in-time w) (edge-runs a) refl)
 
 add-rounds : tie.Need-add-rounds Inv-loop μ-loop
 add-rounds c =
@@ -226,17 +245,17 @@ loop-again c =
     let found = looked .look .ensures in
     let runs = edge-runs a in
     ⊎-elim
-    (λ w. let kept = w .11 .kept .1 .1 .1 .1 .1 .1 .1 .1 .1 .1 .1 .1 in
+    (λ w. let kept = w .13 .kept .1 .1 .1 .1 .1 .1 .1 .1 .1 .1 .1 .1 in
     carried
-    (holds-placed (given a) (room a) (a .loop .inv) (remain q) found (omega (arith, w .0 .taken)) runs refl (w .11 .ensures)
-    (later _ _ (w .21 .taken)) (kept .0) (kept .1 .0) (kept .1 .1 .0))
-    (w .22) (w .23) (w .24) (w .25) (w .26) (w .27) (w .28) (w .29) (w .30))
+    (holds-placed (given a) (room a) (a .loop .inv) (remain q) found (omega (arith, w .0 .taken)) runs refl
+    (placed-of (w .4 .ensures) (w .5 .ensures) (w .13 .ensures)) (later _ _ (w .23 .taken)) (kept .0) (kept .1 .0) (kept .1 .1 .0))
+    (w .24) (w .25) (w .26) (w .27) (w .28) (w .29) (w .30) (w .31) (w .32))
     (⊎-elim
-    (λ w. let kept = w .11 .kept .1 .1 .1 .1 .1 .1 .1 .1 .1 .1 .1 .1 in
+    (λ w. let kept = w .13 .kept .1 .1 .1 .1 .1 .1 .1 .1 .1 .1 .1 .1 in
     carried
-    (holds-placed (given a) (room a) (a .loop .inv) (remain q) found (omega (arith, w .0 .taken)) runs refl (w .11 .ensures)
-    (not-later _ _ (w .21 .left)) (kept .0) (kept .1 .0) (kept .1 .1 .0))
-    (w .22) (w .23) (w .24) (w .25) (w .26) (w .27) (w .28) (w .29) (w .30))
+    (holds-placed (given a) (room a) (a .loop .inv) (remain q) found (omega (arith, w .0 .taken)) runs refl
+    (placed-of (w .4 .ensures) (w .5 .ensures) (w .13 .ensures)) (not-later _ _ (w .23 .left)) (kept .0) (kept .1 .0) (kept .1 .1 .0))
+    (w .24) (w .25) (w .26) (w .27) (w .28) (w .29) (w .30) (w .31) (w .32))
     (λ w. carried (holds-moved (given a) (room a) (a .loop .inv) (remain q) found (omega (arith, w .0 .left)))
     (w .1) (w .2) (w .3) (w .4) (w .5) (w .6) (w .7) (w .8) (w .9)))
     (c .if1 .came)
@@ -272,10 +291,12 @@ run-spec =
     mul-row
     array-copy-out-row
     add-after
-    mul-place
-    array-read-place
-    mul-place-2
-    array-read-place-2
+    mul-index16
+    array-read-index16
+    index16-requires
+    mul-index16-2
+    array-read-index16-2
+    index16-requires-2
     slice-aggregate-place
     slice-aggregate-place-2
     slice-aggregate-place-3
