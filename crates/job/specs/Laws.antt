@@ -5,6 +5,7 @@ pub mod Due
 pub mod Kinds
 pub mod Spare
 pub mod Columns
+pub mod Taking
 pub mod Sizes
 pub mod Putting
 pub mod Tests
