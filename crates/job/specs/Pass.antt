@@ -13,7 +13,11 @@ use mir.Syntax.{w8, w16, w32}
 use mir.Val.{Fits}
 use Rattle.base.specs.Choice.{pick}
 use Rattle.base.specs.Lists.{values, upto, any, filter}
+use Rattle.job.specs.declared.Arrays.{Arrays}
+use Rattle.job.specs.declared.Found.{Found}
 use Rattle.job.specs.declared.Platform.{Platform}
+use Rattle.job.specs.declared.Verdict.{Verdict}
+use Rattle.job.specs.declared.Verdict.the-variants.{Counts, Refused}
 use Rattle.job.specs.declared.parse.Pass.{Pass}
 use Rattle.job.specs.declared.parse.FoundRack.{FoundRack}
 use Rattle.job.specs.declared.parse.FoundStep.{FoundStep}
@@ -26,7 +30,7 @@ use Rattle.job.specs.Job.{Edge, Wire, Result, Job, blank, withRack, with
 use Rattle.job.specs.Record.{Kind, step, link, end, wire, result, kindOf, empty, stands, platformInRange, durationInRange}
 use Rattle.job.specs.Record.{countInRange, joins, aboveLast, costInRange, wirePairs, pairsDue, isDue, tooEarly, hasSuccessor}
 use Rattle.job.specs.Record.{pastResults}
-use Rattle.job.specs.Read.{refused, accepted, refusedOr, records, readJob, wireArray, resultArray}
+use Rattle.job.specs.Read.{refused, accepted, refusedOr, records, readJob, wireArray, resultArray, arraysOf, readingOf, readAs}
 use Rattle.job.specs.Write.{edgeHeld, wireHeld, resultHeld, resultsHeld, fileOf}
 
 -- links by their keys: rising by from, then by to, is rising by key, as to is a byte
@@ -327,3 +331,16 @@ pub record EndDue (file : List ℕ) (at : ℕ) (j : Job) : Type 0 where
 -- the end record at place `at`: its trouble, or 0 and the job so far is accepted
 abbrev pub EndPassed : List ℕ → ℕ → ℕ → Type 0
 EndPassed file at trouble = (j : Job) → EndDue file at j → records (drop at file) 0 j ≡ refusedOr trouble (accepted j)
+
+-- what is found in a refused file, beside the arrays
+abbrev pub nothingFound : ℕ → Found
+nothingFound k = record { verdict = Refused k; platform = blank .platform }
+
+-- the arrays beside a verdict; beside a refusal it does not count what they hold, and they stand for zeros
+abbrev pub counted : Verdict → Arrays → Arrays
+counted (Counts m l) a = a
+counted (Refused k) a = arraysOf blank
+
+-- what was found in a file beside the arrays that were filled
+pub record Filling (file : List ℕ) (r : Found) (a : Arrays) : Type 0 where
+  pub answer : readAs r (counted (r .verdict) a) ≡ readingOf (readJob file)

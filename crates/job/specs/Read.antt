@@ -10,6 +10,7 @@ use Rattle.job.specs.declared.Verdict.the-variants.{Counts, Refused}
 use Rattle.base.specs.Choice.{pick}
 use Rattle.base.specs.Lists.{values}
 use Rattle.job.specs.declared.Arrays.{Arrays}
+use Rattle.job.specs.declared.Found.{Found}
 use Rattle.job.specs.declared.Reading.{Reading}
 use Rattle.job.specs.Job.{Edge, Wire, wireCost, Result, resultCount, Job, blank}
 use Rattle.job.specs.Record.{Kind, rack, step, link, end, wire, result, kindOf, bodyLength, empty, stands, full, inRange, misfit}
@@ -88,3 +89,7 @@ arraysOf j = record {
 unfoldable pub readingOf : Answer → Reading
 readingOf (accepted j) = record { verdict = Counts (length (j .tasks)) (length (j .edges)); platform = j .platform; arrays = arraysOf j }
 readingOf (refused k) = record { verdict = Refused k; platform = blank .platform; arrays = arraysOf blank }
+
+-- a reading, of what was found and the arrays
+abbrev pub readAs : Found → Arrays → Reading
+readAs r a = record { arrays = a; verdict = r .verdict; platform = r .platform }

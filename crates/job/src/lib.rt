@@ -5,8 +5,9 @@ mod record;
 
 ghost use mathlib.Core.Path.{_≡_};
 ghost use Rattle.job.specs.Job.{blank};
-ghost use Rattle.job.specs.Read.{refused, readJob, verdictNumber, arraysOf, readingOf};
-ghost use Rattle.job.specs.Write.{heldJob, WrittenAs};
+ghost use Rattle.job.specs.Read.{refused, readJob, verdictNumber, arraysOf, readingOf, readAs};
+ghost use Rattle.job.specs.Write.{heldJob, gathered, WrittenAs};
+ghost use Rattle.job.specs.Pass.{nothingFound, Filling};
 
 // Processors n, topology (0 complete, 1 hypercube, 2 ring, 3 by its wires) and unit cost c (01: the rack).
 pub struct Platform {
@@ -136,6 +137,128 @@ pub fn read(file: &[u8]) -> Reading
         platform,
         arrays,
     }
+}
+
+// What reading finds beside the arrays.
+pub struct Found {
+    pub verdict: Verdict,
+    pub platform: Platform,
+}
+
+fn nothing(number: u8) -> Found
+    ensures { λ r. ⌜ r ≡ nothingFound number ⌝ }
+{
+    Found {
+        verdict: Verdict::Refused(number),
+        platform: Platform {
+            processors: 0,
+            topology: 0,
+            unit: 0,
+        },
+    }
+}
+
+// Reads a job file into arrays that are all 0; on a refusal they are left as they are then.
+fn fill(
+    file: &[u8],
+    durations: &mut [u32; 256],
+    from: &mut [u8; 1024],
+    to: &mut [u8; 1024],
+    counts: &mut [u16; 1024],
+    wires: &mut [u8; 256],
+    results: &mut [u16; 256],
+) -> Found
+    requires { ⌜ gathered (now durations) (now from) (now to) (now counts) (now wires) (now results) ≡ arraysOf blank ⌝ }
+    ensures { λ r. ⌜ Filling (now (file .entry)) r (gathered (now (durations .exit)) (now (from .exit)) (now (to .exit)) (now (counts .exit))
+        (now (wires .exit)) (now (results .exit))) ⌝ }
+{
+    let rack = parse::rack(file);
+    if rack.trouble != 0 {
+        return nothing(rack.trouble);
+    }
+    let platform = rack.platform;
+    let wired = parse::wires(file, rack.next, platform, wires);
+    if wired.trouble != 0 {
+        return nothing(wired.trouble);
+    }
+    let steps = parse::steps(file, wired.next, durations);
+    if steps.trouble != 0 {
+        return nothing(steps.trouble);
+    }
+    let tasks = steps.count;
+    let mut edges: usize = 0;
+    let mut least: u32 = 0;
+    let mut at = steps.next;
+    while parse::stands(file, at, 3) {
+        let link = parse::link(file, at, tasks, edges, least);
+        if link.trouble != 0 {
+            return nothing(link.trouble);
+        }
+        from[edges] = link.from;
+        to[edges] = link.to;
+        counts[edges] = link.count;
+        edges += 1;
+        least = link.least;
+        at = link.next;
+    }
+    let mut next = at;
+    if parse::stands(file, at, 6) {
+        let sent = record::senders(from, edges);
+        let delivered = parse::results(file, at, tasks, &sent, results);
+        if delivered.trouble != 0 {
+            return nothing(delivered.trouble);
+        }
+        next = delivered.next;
+    }
+    let trouble = parse::end(file, next);
+    if trouble != 0 {
+        return nothing(trouble);
+    }
+    let verdict = Verdict::Counts { tasks, edges };
+    Found { verdict, platform }
+}
+
+// Sets arrays to 0.
+fn forget(
+    durations: &mut [u32; 256],
+    from: &mut [u8; 1024],
+    to: &mut [u8; 1024],
+    counts: &mut [u16; 1024],
+    wires: &mut [u8; 256],
+    results: &mut [u16; 256],
+)
+    ensures { λ r. ⌜ gathered (now (durations .exit)) (now (from .exit)) (now (to .exit)) (now (counts .exit)) (now (wires .exit))
+        (now (results .exit)) ≡ arraysOf blank ⌝ }
+{
+    *durations = [0u32; 256];
+    *from = [0u8; 1024];
+    *to = [0u8; 1024];
+    *counts = [0u16; 1024];
+    *wires = [0u8; 256];
+    *results = [0u16; 256];
+}
+
+// Reads a job file into arrays that the caller has: what `read` answers. What they held does not count; on a refusal all are 0.
+pub fn read_into(
+    file: &[u8],
+    durations: &mut [u32; 256],
+    from: &mut [u8; 1024],
+    to: &mut [u8; 1024],
+    counts: &mut [u16; 1024],
+    wires: &mut [u8; 256],
+    results: &mut [u16; 256],
+) -> Found
+    ensures { λ r. ⌜ readAs r (gathered (now (durations .exit)) (now (from .exit)) (now (to .exit)) (now (counts .exit)) (now (wires .exit))
+        (now (results .exit))) ≡ readingOf (readJob (now (file .entry))) ⌝ }
+{
+    forget(durations, from, to, counts, wires, results);
+    let found = fill(file, durations, from, to, counts, wires, results);
+    let verdict = found.verdict;
+    let Verdict::Counts { tasks: _, edges: _ } = verdict else {
+        forget(durations, from, to, counts, wires, results);
+        return found;
+    };
+    found
 }
 
 // Writes a job held as numbers: its platform and wires, the durations and results of its first `tasks` tasks and its first `edges` edges

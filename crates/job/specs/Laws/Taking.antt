@@ -13,6 +13,7 @@ use Rattle.base.specs.Lists.{values}
 use Rattle.base.specs.Laws.Tests.{fails, ne→neqb}
 use Rattle.base.specs.Laws.Values.{length-values, value-at}
 use Rattle.job.specs.declared.Arrays.{Arrays}
+use Rattle.job.specs.declared.Found.{Found}
 use Rattle.job.specs.declared.Platform.{Platform}
 use Rattle.job.specs.declared.Reading.{Reading}
 use Rattle.job.specs.declared.Verdict.the-variants.{Counts}
@@ -23,9 +24,10 @@ use Rattle.job.specs.declared.parse.Passage.{Passage}
 use Rattle.job.specs.Job.{Job, blank, withRack, withWires, withTasks, withEdges, withResults}
 use Rattle.job.specs.Record.{Kind, rack, step, link, end, wire, result, kindOf, noRack, stands, wirePairs}
 use Rattle.job.specs.Read.{Answer, accepted, refused, refusedOr, records, readJob, padded, resultArray, arraysOf, readingOf}
+use Rattle.job.specs.Read.{readAs}
 use Rattle.job.specs.Write.{wireHeld, resultsHeld, heldJob, gathered}
 use Rattle.job.specs.Pass.{edge, sends, RackPassed, WiresPassed, StepsPassed, LinkDue, LinkPassed, ResultsTaken, ResultsPassed}
-use Rattle.job.specs.Pass.{EndPassed}
+use Rattle.job.specs.Pass.{EndPassed, nothingFound, counted, Filling}
 use Rattle.job.specs.Laws.Judged.{passes, stops}
 use Rattle.job.specs.Laws.Kinds.{kind-byte}
 use Rattle.job.specs.Laws.Tests.{platform-facts}
@@ -38,6 +40,14 @@ use Rattle.job.specs.Laws.Spare.{Filled, front-none, front-set, arrays-b
 pub refuse : (file : List ℕ) (n : ℕ) (a : Answer) (r : Reading) → r ≡ readingOf (refused n) → (n ≡ 0 → ⊥) → readJob file ≡ refusedOr n a →
     r ≡ readingOf (readJob file)
 refuse file n a r e z q = e ∙ ap readingOf (sym (q ∙ stops n a z))
+
+-- .. where the arrays are lent: what they hold does not count
+pub refuse-lent : (file : List ℕ) (n : ℕ) (x : Answer) (r : Found) (a : Arrays) → r ≡ nothingFound n → (n ≡ 0 → ⊥) →
+    readJob file ≡ refusedOr n x → Filling file r a
+unfolding readingOf
+refuse-lent file n x r a e z q = record {
+  answer = ap (λ (f : Found). readAs f (counted (f .verdict) a)) e ∙ ap readingOf (sym (q ∙ stops n x z));
+}
 
 -- l links were taken up to place `at`, and the arrays hold the job so far
 pub record Going (file : List ℕ) (p : Platform) (m : ℕ) (a : Arrays) (l at least : ℕ) : Type 0 where
@@ -209,3 +219,8 @@ module _ {file : List ℕ} {p : Platform} {m : ℕ} {a : Arrays} {l at least : �
     over = λ h e. no-result h (kind-byte (getD file at 0) result e);
     spare = g .filled .results;
   }) (g .same)
+
+  -- the job is accepted, where the arrays are lent
+  pub accept-lent : {b : Arrays} {next : ℕ} → Ready b next → (n : ℕ) → EndPassed file next n → n ≡ 0 →
+      Filling file (record { verdict = Counts m l; platform = p }) b
+  accept-lent t n y z = record { answer = t .whole ∙ ap readingOf (sym (t .answer n y ∙ passes _ _ z)) }
