@@ -169,8 +169,8 @@ fn fill(
     results: &mut [u16; 256],
 ) -> Found
     requires { ⌜ gathered (now durations) (now from) (now to) (now counts) (now wires) (now results) ≡ arraysOf blank ⌝ }
-    ensures { λ r. ⌜ Filling (now (file .entry)) r (gathered (now (durations .exit)) (now (from .exit)) (now (to .exit)) (now (counts .exit))
-        (now (wires .exit)) (now (results .exit))) ⌝ }
+    ensures { λ r. ⌜ Filling (now (file .entry)) r (gathered (now (durations .exit)) (now (from .exit)) (now (to .exit))
+        (now (counts .exit)) (now (wires .exit)) (now (results .exit))) ⌝ }
 {
     let rack = parse::rack(file);
     if rack.trouble != 0 {
@@ -227,8 +227,8 @@ fn forget(
     wires: &mut [u8; 256],
     results: &mut [u16; 256],
 )
-    ensures { λ r. ⌜ gathered (now (durations .exit)) (now (from .exit)) (now (to .exit)) (now (counts .exit)) (now (wires .exit))
-        (now (results .exit)) ≡ arraysOf blank ⌝ }
+    ensures { λ r. ⌜ gathered (now (durations .exit)) (now (from .exit)) (now (to .exit))
+        (now (counts .exit)) (now (wires .exit)) (now (results .exit)) ≡ arraysOf blank ⌝ }
 {
     *durations = [0u32; 256];
     *from = [0u8; 1024];
@@ -248,8 +248,8 @@ pub fn read_into(
     wires: &mut [u8; 256],
     results: &mut [u16; 256],
 ) -> Found
-    ensures { λ r. ⌜ readAs r (gathered (now (durations .exit)) (now (from .exit)) (now (to .exit)) (now (counts .exit)) (now (wires .exit))
-        (now (results .exit))) ≡ readingOf (readJob (now (file .entry))) ⌝ }
+    ensures { λ r. ⌜ readAs r (gathered (now (durations .exit)) (now (from .exit)) (now (to .exit))
+        (now (counts .exit)) (now (wires .exit)) (now (results .exit))) ≡ readingOf (readJob (now (file .entry))) ⌝ }
 {
     forget(durations, from, to, counts, wires, results);
     let found = fill(file, durations, from, to, counts, wires, results);

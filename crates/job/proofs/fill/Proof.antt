@@ -176,8 +176,8 @@ returns-6 c =
 returns-7 : tie.Need-returns-7 Inv-loop μ-loop
 returns-7 c =
     let after = c .before in
-    accept-lent (after .before .before .before .before .before .loop .inv) (at-end (after .before)) (after .end .result) (after .end .ensures)
-    (c .if8 .left)
+    accept-lent (after .before .before .before .before .before .loop .inv) (at-end (after .before))
+    (after .end .result) (after .end .ensures) (c .if8 .left)
 
 pub fill-spec : {M : Type 1} → statement M
 fill-spec =
