@@ -1,25 +1,15 @@
 -- `planner::look` hands the free processors that the survey lists, each below n, on to the search.
-use Prim.Native.Nat.{ℕ, _-_, _≤_, _<_}
-use mathlib.Core.Path.{_≡_, refl, ap, subst, _∙_}
+use Prim.Native.Nat.{ℕ, _-_, _≤_}
+use mathlib.Core.Path.{_≡_, refl, ap, _∙_}
 use mathlib.Core.List.{List}
 use native.Mathlib.Omega.{arith}
 use borrow.Author.Needs.{needs}
-use lib.ListN.{getD}
-use Rattle.base.specs.Lists.{_∈_, upto}
-use Rattle.base.specs.Laws.Lists.{upto-of, filter-of}
-use Rattle.base.specs.Laws.Values.{value-in}
 use Rattle.schedule.specs.declared.planner.Moment.{Moment}
 use Rattle.schedule.specs.declared.planner.Choice.{Choice}
 use Rattle.schedule.specs.Pass.{Surveyed, soonest, freeAmong, noPair, rowOf, searched, Inbox, Looked}
+use Rattle.schedule.specs.Laws.Planner.SearchSteps.{free-below}
 use Rattle.schedule.proofs.planner.look.Statement.{statement}
 use Rattle.schedule.proofs.planner.look.Tie as tie
-
-free-below : (busy : List ℕ) (n clock : ℕ) (free : List ℕ) (r : Moment) → Surveyed busy n clock free r → n ≤ 16
-    → (i : ℕ) → i < r .free → getD free i 0 < 16
-unfolding freeAmong
-free-below busy n clock free r s h i k =
-    let a = subst (λ (fs : List ℕ). getD free i 0 ∈ fs) (s .listed) (value-in (λ x. getD free x 0) (r .free) i k) in
-    omega (arith, upto-of n (getD free i 0) (filter-of _ (upto n) (getD free i 0) a .0))
 
 -- the survey is of the n processors, and the search goes by what it lists
 looked : {order : ℕ → ℕ} {busy free : List ℕ} {B : Inbox} {n k clock low m : ℕ} {s : Moment} {r : Choice}
@@ -51,7 +41,10 @@ choose-requires c κs =
       search needs,
       (
         search needs,
-        (omega (arith, surveyed .few, few, at-survey .survey .kept .1 .1 .1 .0), free-below _ _ _ _ _ surveyed (omega (arith, few))),
+        (
+          omega (arith, surveyed .few, few, at-survey .survey .kept .1 .1 .1 .0),
+          λ i h. omega (arith, few, free-below _ _ _ _ _ surveyed i h),
+        ),
       ),
     )
 

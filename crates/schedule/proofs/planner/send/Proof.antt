@@ -7,15 +7,14 @@ use Prim.Native.Nat.{ℕ, _+_, _*_, _-_, _≤_, _<_, max}
 use native.Mathlib.Omega.{arith}
 use borrow.Author.Needs.{needs}
 use lib.ListN.{length, getD, set}
-use lib.Seq.{getD-set-same, getD-set-other}
 use Rattle.base.specs.Choice.{pick}
-use Rattle.base.specs.Rows.{sum, one-if, most}
+use Rattle.base.specs.Rows.{most}
 use Rattle.base.specs.Laws.Tests.{same-or-not}
-use Rattle.base.specs.Laws.Sums.{sum-grows}
 use Rattle.etf.specs.Bounds.{mostMessageTime}
 use Rattle.schedule.specs.Pass.{sentTo, Raised, ToSend, Sent, Inbox, inbox}
 use Rattle.schedule.specs.Laws.Rows.Lifted.{Lifted, lifted, unlifted}
-use Rattle.schedule.specs.Laws.Planner.Sending.{most-unsent, sum-unsent, most-sent, most-kept, sum-sent, sum-kept, unraised}
+use Rattle.schedule.specs.Laws.Planner.Sending.{most-unsent, sum-unsent, most-sent, most-kept, unraised}
+use Rattle.schedule.specs.Laws.Planner.Sending.{still-waits, waits-less, latest-lifted}
 use Rattle.schedule.proofs.planner.send.Statement.{statement}
 use Rattle.schedule.proofs.planner.send.Tie as tie
 
@@ -56,37 +55,6 @@ module _ (first finish n : ℕ) (row to counts : List ℕ) where
           go (inl q) = r .right-of (16 * T + P) (omega arith) ∙ s
           go (inr q) = unraised n t finish (getD counts k 0) row now after r few T P l q ∙ s
 
-    -- the waiting counts: the task waits still, where no task is sent more than it waits for
-    waits : (last : ℕ) (B B₁ : Inbox) → Sent first k finish n row to counts B B₁
-        → ((T : ℕ) → sum last (λ i. one-if (sentTo to first T i)) ≤ getD (B .waiting) T 0) → k < last → 1 ≤ getD (B₁ .waiting) t 0
-    waits last B B₁ s m l =
-        let grows = sum-grows (λ i. one-if (sentTo to first t i)) (k + 1) last (omega arith) in
-        omega (arith, m t, s .waiting-at t, sum-sent to first t k h (sym e), grows)
-
-    wait : (waiting now : List ℕ) → t < length now → 1 ≤ getD now t 0
-        → (T : ℕ) → getD now T 0 + sum k (λ i. one-if (sentTo to first T i)) ≡ getD waiting T 0
-        → getD (set now t (getD now t 0 - 1)) T 0 + sum (k + 1) (λ i. one-if (sentTo to first T i)) ≡ getD waiting T 0
-    wait waiting now l w T s = go (same-or-not t T)
-      where
-        go : (t ≡ T) ⊎ (t ≡ T → ⊥)
-            → getD (set now t (getD now t 0 - 1)) T 0 + sum (k + 1) (λ i. one-if (sentTo to first T i)) ≡ getD waiting T 0
-        go (inl q) =
-            let less = getD-set-same now t (getD now t 0 - 1) 0 l in
-            rw (← q) (omega (arith, less, rw (← q) at s, sum-sent to first t k h (sym e)))
-        go (inr q) =
-            omega (arith, s, getD-set-other now t T (getD now t 0 - 1) 0 (λ z. q (sym z)), sum-kept to first T k (λ z. q (e ∙ z)))
-
-    -- the latest finishes
-    late : (latest now after : List ℕ) → getD after t 0 ≡ max (getD now t 0) finish
-        → ((T : ℕ) → (T ≡ t → ⊥) → getD after T 0 ≡ getD now T 0)
-        → (T : ℕ) → getD now T 0 ≡ max (getD latest T 0) (most k (λ i. pick (sentTo to first T i) finish 0))
-        → getD after T 0 ≡ max (getD latest T 0) (most (k + 1) (λ i. pick (sentTo to first T i) finish 0))
-    late latest now after w same T s = go (same-or-not t T)
-      where
-        go : (t ≡ T) ⊎ (t ≡ T → ⊥) → getD after T 0 ≡ max (getD latest T 0) (most (k + 1) (λ i. pick (sentTo to first T i) finish 0))
-        go (inl q) = omega (arith, s, rw q at w, most-sent to first T k h (λ i. finish) (sym e ∙ q))
-        go (inr q) = omega (arith, s, same T (λ z. q (sym z)), most-kept to first T k (λ i. finish) (λ z. q (e ∙ z)))
-
     -- all three
     turn : (count : ℕ) (B B₁ : Inbox) (arrivals₂ latest₂ : List ℕ) → count ≡ getD counts k 0 → Sent first k finish n row to counts B B₁
         → Raised n t finish count row (B₁ .arrivals) arrivals₂ → Lifted t finish (B₁ .latest) latest₂
@@ -95,8 +63,8 @@ module _ (first finish n : ℕ) (row to counts : List ℕ) where
     turn count B B₁ arrivals₂ latest₂ d s r m few l w = record {
       arrivals-at = λ T P p. arrive (B .arrivals) (B₁ .arrivals) arrivals₂ (rw d at r) few T P p (s .arrivals-at T P p);
       arrivals-spare = λ T P p q. spare (B .arrivals) (B₁ .arrivals) arrivals₂ (rw d at r) few T P p q (s .arrivals-spare T P p q);
-      waiting-at = λ T. wait (B .waiting) (B₁ .waiting) l w T (s .waiting-at T);
-      latest-at = λ T. late (B .latest) (B₁ .latest) latest₂ (m .here) (m .elsewhere) T (s .latest-at T);
+      waiting-at = λ T. waits-less first to k t e h (B .waiting) (B₁ .waiting) l w T (s .waiting-at T);
+      latest-at = λ T. latest-lifted first to k t e h finish (B .latest) (B₁ .latest) latest₂ m T (s .latest-at T);
     }
 
 -- the lengths stay, and what was sent along the edges before edge k has been sent
@@ -180,7 +148,8 @@ sub-waiting c =
     let at-index = c .before .before .before .before .before .before .before .before .before in
     let at-loop = at-index .before .before .before in
     let v = at-loop .loop .inv in
-    waits _ _ _ _ _ _ _ _ (at-index .index .ensures .0) (v .from-first) _ _ _ (v .sent) (asked at-loop .enough) (search needs)
+    still-waits _ _ _ _ (at-index .index .ensures .0) (v .from-first) _ (start at-loop .args .waiting .now) (at-loop .loop .waiting)
+    (v .sent .waiting-at) (asked at-loop .enough) (search needs)
 
 mul-waiting-2 : tie.Need-mul-waiting-2 Inv-loop μ-loop
 mul-waiting-2 c = search needs

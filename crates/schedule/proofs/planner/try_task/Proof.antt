@@ -1,13 +1,13 @@
 -- `planner::try_task`: the task's row of the arrivals is the part that begins at place 16T.
-use mathlib.Core.Path.{_≡_, refl, ap, _∙_}
+use mathlib.Core.Path.{_≡_, ap, _∙_}
 use mathlib.Core.List.{List}
 use Prim.Native.Nat.{ℕ, _+_, _*_, _-_, _≤_, _<_}
 use native.Mathlib.Omega.{arith}
 use borrow.Author.Needs.{needs}
 use lib.ListN.{length, getD, take, drop}
 use lib.Seq.{getD-take, getD-drop}
-use Rattle.schedule.specs.Pass.{pairAt, firstBest, rowOf, rowBy}
-use Rattle.schedule.specs.Laws.Planner.SearchSteps.{rowBy-same}
+use Rattle.schedule.specs.Pass.{firstBest, rowOf, rowBy}
+use Rattle.schedule.specs.Laws.Planner.SearchSteps.{rowBy-same, row-in-place}
 use Rattle.schedule.proofs.planner.try_task.Statement.{statement}
 use Rattle.schedule.proofs.planner.try_task.Tie as tie
 
@@ -17,17 +17,12 @@ row-part : (arrivals : List ℕ) (T P : ℕ) → T < 256 → P < 16 → 4096 ≤
 row-part arrivals T P t p room =
     getD-take (length arrivals - 16 * T) (drop (16 * T) arrivals) P 0 (omega arith) ∙ getD-drop (16 * T) arrivals P 0
 
-in-place : (clock : ℕ) (arrivals free : List ℕ) (k T : ℕ)
-    → rowBy clock (λ P. getD arrivals (16 * T + P) 0) free k T ≡ rowOf clock arrivals free k T
-unfolding rowOf pairAt rowBy
-in-place clock arrivals free k T = refl
-
 row-is : (clock : ℕ) (arrivals free : List ℕ) (k T : ℕ) → T < 256 → 4096 ≤ length arrivals → ((i : ℕ) → i < k → getD free i 0 < 16)
     → rowBy clock (λ P. getD (take (length arrivals - 16 * T) (drop (16 * T) arrivals)) P 0) free k T ≡ rowOf clock arrivals free k T
 row-is clock arrivals free k T t room low =
     rowBy-same clock (λ P. getD (take (length arrivals - 16 * T) (drop (16 * T) arrivals)) P 0) (λ P. getD arrivals (16 * T + P) 0)
     free k T (λ i h. row-part arrivals T (getD free i 0) t (low i h) room)
-    ∙ in-place clock arrivals free k T
+    ∙ row-in-place clock arrivals free k T
 
 mul-first : tie.Need-mul-first
 mul-first c = search needs

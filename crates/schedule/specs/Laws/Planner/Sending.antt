@@ -1,20 +1,22 @@
 -- What one edge adds to what a task sends along its edges.
 -- Edges before the first add nothing, and an edge adds only to the task that it goes to.
-use mathlib.Core.Path.{_≡_}
+use mathlib.Core.Path.{_≡_, sym, _∙_}
 use mathlib.Core.Logic.{_⊎_, inl, inr}
 use mathlib.Core.Bool.{not}
 use mathlib.Core.List.{List}
-use Prim.Native.Nat.{ℕ, _+_, _*_, _≤_, _<_, max}
+use Prim.Native.Nat.{ℕ, _+_, _*_, _-_, _≤_, _<_, max}
 use native.Mathlib.Omega.{arith}
 use lib.Dec.{leb, eqb, leb→le, le→leb, eqb→eq}
 use lib.Dec.{T as Holds}
-use lib.ListN.{getD}
+use lib.ListN.{length, getD, set}
+use lib.Seq.{getD-set-same, getD-set-other}
 use Rattle.base.specs.Choice.{pick}
 use Rattle.base.specs.Rows.{sum, one-if, most}
-use Rattle.base.specs.Laws.Tests.{both, first, second, fails, eq→eqb, pick-yes, pick-no, le-or-lt}
-use Rattle.base.specs.Laws.Sums.{one-if-yes, one-if-no}
+use Rattle.base.specs.Laws.Tests.{both, first, second, fails, eq→eqb, pick-yes, pick-no, le-or-lt, same-or-not}
+use Rattle.base.specs.Laws.Sums.{one-if-yes, one-if-no, sum-grows}
 use Rattle.base.specs.Laws.Most.{most-more, sum-more, most-none, sum-none}
 use Rattle.schedule.specs.Pass.{Raised, sentTo}
+use Rattle.schedule.specs.Laws.Rows.Lifted.{Lifted}
 
 module _ (to : List ℕ) (a T : ℕ) where
   sent-here : (k : ℕ) → a ≤ k → getD to k 0 ≡ T → Holds (sentTo to a T k)
@@ -57,6 +59,40 @@ module _ (to : List ℕ) (a T : ℕ) where
   pub sum-kept : (k : ℕ) → (getD to k 0 ≡ T → ⊥)
       → sum (k + 1) (λ i. one-if (sentTo to a T i)) ≡ sum k (λ i. one-if (sentTo to a T i))
   sum-kept k e = omega (arith, sum-more k (λ i. one-if (sentTo to a T i)), one-if-no (sentTo to a T k) (sent-elsewhere k e))
+
+-- the turn of edge k, which goes to task t
+module _ (a : ℕ) (to : List ℕ) (k t : ℕ) (e : t ≡ getD to k 0) (h : a ≤ k) where
+  -- the task waits still, where no task is sent more than it waits for
+  pub still-waits : (last : ℕ) (waiting now : List ℕ)
+      → ((T : ℕ) → getD now T 0 + sum k (λ i. one-if (sentTo to a T i)) ≡ getD waiting T 0)
+      → ((T : ℕ) → sum last (λ i. one-if (sentTo to a T i)) ≤ getD waiting T 0) → k < last → 1 ≤ getD now t 0
+  still-waits last waiting now s m l =
+      let grows = sum-grows (λ i. one-if (sentTo to a t i)) (k + 1) last (omega arith) in
+      omega (arith, m t, s t, sum-sent to a t k h (sym e), grows)
+
+  -- it waits for one less
+  pub waits-less : (waiting now : List ℕ) → t < length now → 1 ≤ getD now t 0
+      → (T : ℕ) → getD now T 0 + sum k (λ i. one-if (sentTo to a T i)) ≡ getD waiting T 0
+      → getD (set now t (getD now t 0 - 1)) T 0 + sum (k + 1) (λ i. one-if (sentTo to a T i)) ≡ getD waiting T 0
+  waits-less waiting now l w T s = go (same-or-not t T)
+    where
+      go : (t ≡ T) ⊎ (t ≡ T → ⊥)
+          → getD (set now t (getD now t 0 - 1)) T 0 + sum (k + 1) (λ i. one-if (sentTo to a T i)) ≡ getD waiting T 0
+      go (inl q) =
+          let less = getD-set-same now t (getD now t 0 - 1) 0 l in
+          rw (← q) (omega (arith, less, rw (← q) at s, sum-sent to a t k h (sym e)))
+      go (inr q) =
+          omega (arith, s, getD-set-other now t T (getD now t 0 - 1) 0 (λ z. q (sym z)), sum-kept to a T k (λ z. q (e ∙ z)))
+
+  -- its latest finish is raised
+  pub latest-lifted : (finish : ℕ) (latest now after : List ℕ) → Lifted t finish now after
+      → (T : ℕ) → getD now T 0 ≡ max (getD latest T 0) (most k (λ i. pick (sentTo to a T i) finish 0))
+      → getD after T 0 ≡ max (getD latest T 0) (most (k + 1) (λ i. pick (sentTo to a T i) finish 0))
+  latest-lifted finish latest now after w T s = go (same-or-not t T)
+    where
+      go : (t ≡ T) ⊎ (t ≡ T → ⊥) → getD after T 0 ≡ max (getD latest T 0) (most (k + 1) (λ i. pick (sentTo to a T i) finish 0))
+      go (inl q) = omega (arith, s, rw q at (w .here), most-sent to a T k h (λ i. finish) (sym e ∙ q))
+      go (inr q) = omega (arith, s, w .elsewhere T (λ z. q (sym z)), most-kept to a T k (λ i. finish) (λ z. q (e ∙ z)))
 
 -- the arrivals of another task are not raised
 pub unraised : (n U finish count : ℕ) (row before after : List ℕ) → Raised n U finish count row before after → n ≤ 16
