@@ -4,13 +4,21 @@ use mathlib.Core.List.{List}
 use Prim.Native.Nat.{ℕ, _≤_, _<_}
 use lib.ListN.{length}
 
-module _ (m : ℕ) (starts processors scratch : List ℕ) where
-  -- one of them is too short
-  abbrev pub Short : Type 0
-  Short = (length starts < m) ⊎ ((length processors < m) ⊎ (length scratch < 4096))
+module _ (places m : ℕ) (starts processors scratch : List ℕ) where
+  -- one of them is too short, of the scratch for so many places
+  abbrev pub ShortFor : Type 0
+  ShortFor = (length starts < m) ⊎ ((length processors < m) ⊎ (length scratch < places))
 
   -- each has room
-  pub record HasRoom : Type 0 where
+  pub record RoomFor : Type 0 where
     pub for-starts : m ≤ length starts
     pub for-processors : m ≤ length processors
-    pub for-scratch : 4096 ≤ length scratch
+    pub for-scratch : places ≤ length scratch
+
+-- the same for the planner's 4,096 places
+module _ (m : ℕ) (starts processors scratch : List ℕ) where
+  abbrev pub Short : Type 0
+  Short = ShortFor 4096 m starts processors scratch
+
+  abbrev pub HasRoom : Type 0
+  HasRoom = RoomFor 4096 m starts processors scratch
