@@ -16,6 +16,7 @@ use Rattle.schedule.specs.declared.Covered.the-variants.{Cover, Refused 
 use Rattle.schedule.specs.declared.Checked.the-variants.{Yes, Refused as NotChecked}
 use Rattle.schedule.specs.Call.{called, startOf, processorOf, scratchAt, laidOut, tooShort, callFor}
 use Rattle.schedule.specs.Plan.{endOf, outcome, planCall}
+use Rattle.schedule.specs.Small.{laidSmall, smallCall}
 use Rattle.schedule.specs.Cover.{figures, coverCall}
 use Rattle.schedule.specs.Check.{checkOf, checkedAs, checkFor, checkCall}
 
@@ -58,6 +59,10 @@ pub cases-hold :
     × (planCall apart (7 ∷ []) (7 ∷ 7 ∷ []) (replicate 4096 8) ≡ called (Refused 9) (7 ∷ []) (7 ∷ 7 ∷ []) (replicate 4096 8))
     × (planCall apart (7 ∷ 7 ∷ []) (7 ∷ []) (replicate 4096 8) ≡ called (Refused 9) (7 ∷ 7 ∷ []) (7 ∷ []) (replicate 4096 8))
     × (planCall apart (7 ∷ 7 ∷ []) (7 ∷ 7 ∷ []) (replicate 4095 8) ≡ called (Refused 9) (7 ∷ 7 ∷ []) (7 ∷ 7 ∷ []) (replicate 4095 8))
+    -- the planner for small controllers (02 §4): the same plan, and 512 places of scratch that are 0; 9 by that number
+    × (smallCall file-a (7 ∷ 7 ∷ 7 ∷ 8 ∷ []) (7 ∷ 7 ∷ 7 ∷ []) (replicate 513 7) ≡ called (Plan (record { tasks = 3; end = 8 }))
+    (0 ∷ 0 ∷ 6 ∷ 8 ∷ []) (0 ∷ 1 ∷ 1 ∷ []) (replicate 512 0 ++ (7 ∷ [])))
+    × (smallCall apart (7 ∷ 7 ∷ []) (7 ∷ 7 ∷ []) (replicate 511 8) ≡ called (Refused 9) (7 ∷ 7 ∷ []) (7 ∷ 7 ∷ []) (replicate 511 8))
     -- the cover call: C and the dearest chain, the slices as the planner leaves them; 9 for each slice, and the reader's number
     × (coverCall file-a (7 ∷ 7 ∷ 7 ∷ 8 ∷ []) (7 ∷ 7 ∷ 7 ∷ []) (replicate 4096 7) .answer ≡ Cover (record { cover = 6; dearest = 6 }))
     × (coverCall file-a (7 ∷ 7 ∷ 7 ∷ 8 ∷ []) (7 ∷ 7 ∷ 7 ∷ []) (replicate 4096 7) .starts ≡ 0 ∷ 0 ∷ 6 ∷ 8 ∷ [])
@@ -70,6 +75,6 @@ pub cases-hold :
     × (checkCall apart (0 ∷ []) (0 ∷ 1 ∷ []) ≡ NotChecked 9)
     × (checkCall apart (0 ∷ 0 ∷ []) (0 ∷ []) ≡ NotChecked 9)
     × (checkCall apart (0 ∷ 5 ∷ 0 ∷ []) (0 ∷ 0 ∷ 99 ∷ []) ≡ Yes)
-unfolding planCall outcome endOf coverCall figures callFor laidOut tooShort filled scratchAt checkCall checkFor checkedAs checkOf
-    startOf processorOf computed answer
-cases-hold = (refl, refl, refl, refl, refl, refl, refl, refl, refl, refl, refl, refl, refl, refl, refl, refl, refl)
+unfolding planCall smallCall laidSmall outcome endOf coverCall figures callFor laidOut tooShort filled scratchAt checkCall checkFor
+    checkedAs checkOf startOf processorOf computed answer
+cases-hold = (refl, refl, refl, refl, refl, refl, refl, refl, refl, refl, refl, refl, refl, refl, refl, refl, refl, refl, refl)

@@ -4,5 +4,6 @@ pub mod Planner
 pub mod Checker
 pub mod Reading
 pub mod Calls
+pub mod SmallCalls
 pub mod Walk
 pub mod Delivery

@@ -1,6 +1,7 @@
 pub mod InArrays
 pub mod Call
 pub mod Plan
+pub mod Small
 pub mod Cover
 pub mod Check
 pub mod Lent
@@ -8,6 +9,8 @@ pub mod Answered
 pub mod Verdict
 pub mod Cases
 pub mod OwnPlan
+pub mod SmallPlan
 pub mod Pass
+pub mod SmallPass
 pub mod CoverPass
 pub mod Laws

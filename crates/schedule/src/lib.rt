@@ -5,6 +5,7 @@ mod costs;
 mod delivery;
 mod hypercube;
 mod planner;
+mod small;
 mod walk;
 
 use job::Reading;
@@ -16,9 +17,11 @@ ghost use Rattle.base.specs.Slices.{filled};
 ghost use Rattle.schedule.specs.InArrays.{byNumber, instanceIn, Plannable};
 ghost use Rattle.schedule.specs.Call.{called};
 ghost use Rattle.schedule.specs.Plan.{planCall};
+ghost use Rattle.schedule.specs.Small.{smallCall};
 ghost use Rattle.schedule.specs.Cover.{figures, coverCall};
 ghost use Rattle.schedule.specs.Check.{checkCall, judgeCall};
 ghost use Rattle.schedule.specs.Pass.{shortOf, layCall, said};
+ghost use Rattle.schedule.specs.SmallPass.{laySmall};
 ghost use Rattle.schedule.specs.CoverPass.{HoldsPlan};
 
 // What planning a job gives: the number of its tasks and the plan's end.
@@ -164,6 +167,100 @@ pub fn plan(file: &[u8], starts: &mut [u32], processors: &mut [u8], scratch: &mu
         processors,
     );
     Planned::Plan(Outcome { tasks, end })
+}
+
+// Lays the plan of an instance out in the slices, if there is room, with 512 places of scratch, which are 0 afterwards.
+fn lay_small(
+    n: usize,
+    tasks: usize,
+    edges: usize,
+    durations: &[u32],
+    from: &[u8],
+    to: &[u8],
+    counts: &[u16],
+    costs: &[[u32; 16]; 16],
+    starts: &mut [u32],
+    processors: &mut [u8],
+    scratch: &mut [u32],
+) -> Laid
+    requires { ⌜ Plannable (byNumber n tasks edges (now durations) (now from) (now to) (now counts) (now costs)) ⌝ }
+    ensures { λ r. ⌜ called r (now (starts .exit)) (now (processors .exit)) (now (scratch .exit)) ≡ laySmall
+        (instanceIn (byNumber n tasks edges (now (durations .entry)) (now (from .entry)) (now (to .entry)) (now (counts .entry))
+        (now (costs .entry)))) (now (starts .entry)) (now (processors .entry)) (now (scratch .entry)) ⌝ }
+{
+    if too_short(tasks, starts.len(), processors.len(), scratch.len(), 512) {
+        return Laid::Short;
+    }
+    clear(scratch, 512);
+    let last = small::run(
+        n,
+        tasks,
+        edges,
+        durations,
+        from,
+        to,
+        counts,
+        costs,
+        starts,
+        processors,
+        scratch,
+    );
+    clear(scratch, 512); // 02 §4: it "leaves those 512 at zero"
+    Laid::Last(last)
+}
+
+// Plans the job of a file with 512 places of scratch (02 §4). The job is read into arrays of its own, which are on the stack once.
+pub fn plan_small(
+    file: &[u8],
+    starts: &mut [u32],
+    processors: &mut [u8],
+    scratch: &mut [u32],
+) -> Planned
+    ensures { λ r. ⌜ called r (now (starts .exit)) (now (processors .exit)) (now (scratch .exit)) ≡
+        smallCall (now (file .entry)) (now (starts .entry)) (now (processors .entry)) (now (scratch .entry)) ⌝ }
+{
+    let mut durations = [0u32; 256];
+    let mut from = [0u8; 1024];
+    let mut to = [0u8; 1024];
+    let mut counts = [0u16; 1024];
+    let mut wires = [0u8; 256];
+    let mut results = [0u16; 256];
+    let found = job::read_into(
+        file,
+        &mut durations,
+        &mut from,
+        &mut to,
+        &mut counts,
+        &mut wires,
+        &mut results,
+    );
+    let verdict = found.verdict;
+    let Verdict::Counts { tasks, edges } = verdict else {
+        return Planned::Refused(job::number(verdict));
+    };
+    let n = base::index(found.platform.processors);
+    let costs = costs::square(found.platform, &wires);
+    let laid = lay_small(
+        n,
+        tasks,
+        edges,
+        &durations,
+        &from,
+        &to,
+        &counts,
+        &costs,
+        starts,
+        processors,
+        scratch,
+    );
+    let Laid::Last(last) = laid else {
+        return Planned::Refused(9);
+    };
+    let reported = delivery::end(tasks, last, &durations, &results, costs, starts, processors);
+    Planned::Plan(Outcome {
+        tasks,
+        end: reported,
+    })
 }
 
 // Measures the planner's plan of an instance, which the slices hold.

@@ -69,10 +69,10 @@ no-number (some k) z e = absurd (z (ap some e))
 -- ---- a plan laid out
 
 -- it ended, or a slice was too short
-clash : {X : Type 0} {e : ℕ} → Short ≡ Last e → X
+pub clash : {X : Type 0} {e : ℕ} → Short ≡ Last e → X
 clash h = let z : false ≡ true = cc in impossible z
 
-same-end : {d e : ℕ} → Last d ≡ Last e → d ≡ e
+pub same-end : {d e : ℕ} → Last d ≡ Last e → d ≡ e
 same-end h = cc
 
 -- none of the three slices is too short
@@ -103,7 +103,7 @@ module _ {A : InArrays} (F : Plannable A) where
 
   module _ (starts processors scratch : List ℕ) where
     -- the test of the lengths, as the definition has it
-    short-is : (places : ℕ) {t b : Bool} → t ≡ shortOf places (A .tasks) (length starts) (length processors) (length scratch) → t ≡ b
+    pub short-is : (places : ℕ) {t b : Bool} → t ≡ shortOf places (A .tasks) (length starts) (length processors) (length scratch) → t ≡ b
         → tooShort places (tasks I) starts processors scratch ≡ b
     unfolding shortOf tooShort
     short-is places e w = rw (held-tasks F) (sym e ∙ w)

@@ -8,3 +8,5 @@ pub mod Search
 pub mod SearchSteps
 pub mod Sending
 pub mod EdgesOfTask
+pub mod WithoutTable
+pub mod WorkedOut

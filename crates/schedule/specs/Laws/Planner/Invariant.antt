@@ -15,7 +15,7 @@ use Rattle.etf.specs.Instance.{Instance, tasks, duration}
 use Rattle.etf.specs.Schedule.{Placement, placed, finish, arrival}
 use Rattle.etf.specs.Rule.{State, begin, run, round, complete, choice, nextMoment, ready}
 use Rattle.etf.specs.Bounds.{mostFinish}
-use Rattle.etf.specs.Laws.Turn.{ready-of, NewPlacement}
+use Rattle.etf.specs.Laws.Turn.{ready-of, NewPlacement, Tick}
 use Rattle.etf.specs.Laws.Rounds.{enough-rounds, run-last}
 use Rattle.etf.specs.Laws.Sound.{Sound, Opened, sound-start, sound-run}
 use Rattle.schedule.specs.declared.planner.Pair.{Pair}
@@ -72,7 +72,7 @@ module _ {A : InArrays} (F : Plannable A) {starts₀ processors₀ arrivals₀ :
     abbrev ps : List Placement
     ps = Y .placements
 
-    sound : Sound I clock ps
+    pub sound : Sound I clock ps
     sound = subst (λ (st : State). Sound I (st .clock) (st .placements)) (Y .ran) (sound-run I (well F) rounds begin (sound-start I))
 
     -- all tasks are placed
@@ -88,7 +88,7 @@ module _ {A : InArrays} (F : Plannable A) {starts₀ processors₀ arrivals₀ :
     pub clock-small : clock < never
     clock-small = omega (arith, no-clock-passes F rounds, ap (λ (st : State). st .clock) (Y .ran))
 
-    finish-by : (u : Placement) → u ∈ ps → finish I u ≤ mostFinish
+    pub finish-by : (u : Placement) → u ∈ ps → finish I u ≤ mostFinish
     finish-by u h = no-finish-passes F rounds u (subst (λ (st : State). u ∈ st .placements) (sym (Y .ran)) h)
 
     module _ (more : low < A .tasks) where
@@ -152,21 +152,28 @@ module _ {A : InArrays} (F : Plannable A) {starts₀ processors₀ arrivals₀ :
         choice-soon = choice-most I clock ps (A .tasks) (A .order) refl in-order start-small
 
         -- it starts too late: the clock moves
-        pub holds-moved : r .next < pair .start → Holding S (r .next) e low (rounds + 1)
-        holds-moved h =
-            let late = subst (λ (x : ℕ). x < pairOf (choice I clock ps) .start) next-is
-            (subst (λ (q : Pair). r .next < q .start) choice-is h) in
-            let t = moving I (well F) clock ps incomplete finish-by choice-soon late in
-            record {
-              placements = ps;
-              ran = next-run ∙ (t .0 ∙ ap (λ (x : ℕ). state x ps) (sym next-is));
-              few-rounds = omega (arith, more-rounds);
-              in-step = progress-tick (Y .in-step) (r .next) (omega (arith, t .1 .ahead, next-is));
-              untouched = Y .untouched;
-              waiting-size = Y .waiting-size;
-              latest-size = Y .latest-size;
-              busy-size = Y .busy-size;
-            }
+        module _ (h : r .next < pair .start) where
+          ticked : (round I (state clock ps) ≡ state (neverOr (nextMoment I clock ps)) ps)
+              × Tick I clock ps (neverOr (nextMoment I clock ps))
+          ticked =
+              moving I (well F) clock ps incomplete finish-by choice-soon
+              (subst (λ (x : ℕ). x < pairOf (choice I clock ps) .start) next-is
+              (subst (λ (q : Pair). r .next < q .start) choice-is h))
+
+          pub moved-on : run I (rounds + 1) begin ≡ state (r .next) ps
+          moved-on = next-run ∙ (ticked .0 ∙ ap (λ (x : ℕ). state x ps) (sym next-is))
+
+          pub holds-moved : Holding S (r .next) e low (rounds + 1)
+          holds-moved = record {
+            placements = ps;
+            ran = moved-on;
+            few-rounds = omega (arith, more-rounds);
+            in-step = progress-tick (Y .in-step) (r .next) (omega (arith, ticked .1 .ahead, next-is));
+            untouched = Y .untouched;
+            waiting-size = Y .waiting-size;
+            latest-size = Y .latest-size;
+            busy-size = Y .busy-size;
+          }
 
         -- it is placed
         module _ (h : pair .start ≤ r .next) where
@@ -184,11 +191,11 @@ module _ {A : InArrays} (F : Plannable A) {starts₀ processors₀ arrivals₀ :
           put-is : NewPlacement I clock ps u
           put-is = put-turn .1
 
-          task-below : pair .task < A .tasks
-          task-below = omega (arith, put-is .task-ready .below, held-tasks F)
+          pub chosen-below : pair .task < A .tasks
+          chosen-below = omega (arith, put-is .task-ready .below, held-tasks F)
 
           pub task-small : pair .task < 256
-          task-small = omega (arith, task-below, F .few-tasks)
+          task-small = omega (arith, chosen-below, F .few-tasks)
 
           processor-there : pair .processor < A .processors
           unfolding instanceIn
@@ -197,7 +204,7 @@ module _ {A : InArrays} (F : Plannable A) {starts₀ processors₀ arrivals₀ :
           pub processor-small : pair .processor < 16
           processor-small = omega (arith, processor-there, F .few-processors)
 
-          ran-on : run I (rounds + 1) begin ≡ state clock (u ∷ ps)
+          pub ran-on : run I (rounds + 1) begin ≡ state clock (u ∷ ps)
           ran-on = next-run ∙ put-turn .0
 
           time-is : getD (A .durations) (pair .task) 0 ≡ duration I (pair .task)
@@ -207,6 +214,9 @@ module _ {A : InArrays} (F : Plannable A) {starts₀ processors₀ arrivals₀ :
           finish-small =
               let new = subst (λ (st : State). u ∈ st .placements) (sym ran-on) (here refl) in
               omega (arith, time-is, no-finish-passes F (rounds + 1) u new)
+
+          pub finish-is : {f : ℕ} → f ≡ pair .start + getD (A .durations) (pair .task) 0 → f ≡ finish I u
+          finish-is f-is = f-is ∙ ap (λ (x : ℕ). pair .start + x) time-is
 
           module _ {runs : List ℕ} (E : Runs (A .from) (A .tasks) (A .edges) runs) where
             abbrev first : ℕ
@@ -219,13 +229,13 @@ module _ {A : InArrays} (F : Plannable A) {starts₀ processors₀ arrivals₀ :
             row = getD (A .costs) (pair .processor) []
 
             run-within : last ≤ A .edges
-            run-within = last-most E (pair .task) task-below
+            run-within = last-most E (pair .task) chosen-below
 
             module _ {f : ℕ} (f-is : f ≡ pair .start + getD (A .durations) (pair .task) 0) where
               -- what placing asks
               to-send : ToSend first last f (A .processors) row (A .to) (A .counts) (marked (pair .task) (S .inbox))
               to-send = record {
-                rises = first-last E (pair .task) task-below;
+                rises = first-last E (pair .task) chosen-below;
                 has-to = omega (arith, run-within, edges-there F .1);
                 has-counts = omega (arith, run-within, edges-there F .2);
                 few-processors = F .few-processors;
@@ -240,8 +250,8 @@ module _ {A : InArrays} (F : Plannable A) {starts₀ processors₀ arrivals₀ :
 
               pub to-place : ToPlace pair f first last low (A .tasks) (A .processors) row (A .to) (A .counts) S
               to-place = record {
-                has-start = omega (arith, task-below, R .for-starts, Y .untouched .starts-size);
-                has-processor = omega (arith, task-below, R .for-processors, Y .untouched .processors-size);
+                has-start = omega (arith, chosen-below, R .for-starts, Y .untouched .starts-size);
+                has-processor = omega (arith, chosen-below, R .for-processors, Y .untouched .processors-size);
                 task-below = task-small;
                 processor-below = processor-small;
                 low-most = omega arith;
@@ -253,12 +263,9 @@ module _ {A : InArrays} (F : Plannable A) {starts₀ processors₀ arrivals₀ :
               -- and what it leaves
               module _ {S′ : Tables} {low′ : ℕ}
                   (B : Placed pair f first last low (A .tasks) (A .processors) (A .order) row (A .to) (A .counts) S S′ low′) where
-                finish-is : f ≡ finish I u
-                finish-is = f-is ∙ ap (λ (x : ℕ). pair .start + x) time-is
-
                 sent : Sent first last (finish I u) (I .processors) row (A .to) (A .counts) (marked (pair .task) (S .inbox)) (S′ .inbox)
                 unfolding instanceIn
-                sent = rw finish-is at (B .sent)
+                sent = rw (finish-is f-is) at (B .sent)
 
                 costs-are : (P : ℕ) → P < I .processors → getD row P 0 ≡ I .cost (pair .processor) P
                 unfolding instanceIn
@@ -271,7 +278,7 @@ module _ {A : InArrays} (F : Plannable A) {starts₀ processors₀ arrivals₀ :
                   placements = u ∷ ps;
                   ran = ran-on;
                   few-rounds = omega (arith, more-rounds);
-                  in-step = rw (B .starts-are, B .processors-are, B .busy-are, e-is, finish-is)
+                  in-step = rw (B .starts-are, B .processors-are, B .busy-are, e-is, finish-is f-is)
                       (progress F put-is E sound (Y .in-step) costs-are (to-place .has-start) (to-place .has-processor)
                       (omega (arith, task-small, Y .waiting-size)) (omega (arith, processor-small, Y .busy-size)) sent (B .skipped));
                   untouched = rw (B .starts-are, B .processors-are)
