@@ -6,13 +6,17 @@ use job::Verdict;
 use schedule::Checked;
 use schedule::Planned;
 ghost use mathlib.Core.Path.{_≡_};
+ghost use mathlib.Core.List.{[]};
 ghost use Prim.Native.Nat.{_≤_};
 ghost use lib.ListN.{length};
 ghost use Rattle.job.specs.Limits.{mostTasks};
 ghost use Rattle.job.specs.Read.{readJob, readingOf};
+ghost use Rattle.schedule.specs.declared.Outcome.{Outcome};
+ghost use Rattle.schedule.specs.declared.Planned.the-variants.{Plan};
+ghost use Rattle.schedule.specs.Call.{called};
 ghost use Rattle.kelvrist.specs.PlanBytes.{returned, planBytesCall, checkBytesCall};
 ghost use Rattle.kelvrist.specs.PageBytes.{pageNumber, drew, pageBytesCall};
-ghost use Rattle.kelvrist.specs.Numbers.{planNumber, checkNumber};
+ghost use Rattle.kelvrist.specs.Numbers.{planNumber, checkNumber, inBytes};
 ghost use Rattle.kelvrist.specs.Pass.{Taken};
 
 // 0 for a plan, or the refusal's number.
@@ -70,6 +74,24 @@ fn take_plan(job: &[u8], plan: &[u8], starts: &mut [u32], processors: &mut [u8])
     0
 }
 
+// Puts what a planner answers and leaves in its arrays into 5 bytes a task of `plan`: 0, or the refusal's number.
+fn put_plan(planned: Planned, starts: &[u32], processors: &[u8], plan: &mut [u8]) -> u32
+    requires { ⌜ ((o : Outcome) → planned ≡ Plan o →
+        (o .tasks ≤ mostTasks) × (o .tasks ≤ length (now starts)) × (o .tasks ≤ length (now processors))) ⌝ }
+    ensures { λ r. ⌜ returned r (now (plan .exit)) ≡
+        inBytes (called planned (now (starts .entry)) (now (processors .entry)) []) (now (plan .entry)) ⌝ }
+{
+    let Planned::Plan(outcome) = planned else {
+        return plan_number(planned);
+    };
+    let tasks = outcome.tasks;
+    if plan.len() < 5 * tasks {
+        return 9;
+    }
+    encoding::put(tasks, starts, processors, plan);
+    0
+}
+
 // Plans the job of `job` into 5 bytes a task of `plan`: 0, or the refusal's number.
 #[no_mangle]
 pub extern "C" fn kelvrist_plan(job: &[u8], plan: &mut [u8]) -> u32
@@ -79,15 +101,19 @@ pub extern "C" fn kelvrist_plan(job: &[u8], plan: &mut [u8]) -> u32
     let mut processors = [0u8; 256];
     let mut scratch = [0u32; 4096];
     let planned = schedule::plan(job, &mut starts, &mut processors, &mut scratch);
-    let Planned::Plan(outcome) = planned else {
-        return plan_number(planned);
-    };
-    let tasks = outcome.tasks;
-    if plan.len() < 5 * tasks {
-        return 9;
-    }
-    encoding::put(tasks, &starts, &processors, plan);
-    0
+    put_plan(planned, &starts, &processors, plan)
+}
+
+// The same number and bytes with less memory (02 §4): arrivals are worked out when they are wanted.
+#[no_mangle]
+pub extern "C" fn kelvrist_plan_small(job: &[u8], plan: &mut [u8]) -> u32
+    ensures { λ r. ⌜ returned r (now (plan .exit)) ≡ planBytesCall (now (job .entry)) (now (plan .entry)) ⌝ }
+{
+    let mut starts = [0u32; 256];
+    let mut processors = [0u8; 256];
+    let mut scratch = [0u32; 512];
+    let planned = schedule::plan_small(job, &mut starts, &mut processors, &mut scratch);
+    put_plan(planned, &starts, &processors, plan)
 }
 
 // Judges 5 bytes a task of `plan` for the job of `job`: 0 for a yes, or the refusal's number. No byte past 5m is read.
