@@ -17,8 +17,11 @@ use Rattle.job.specs.Read.{Answer, accepted, refused, readJob, verdictNumber}
 use Rattle.job.specs.Write.{heldJob, writeAnswer, writeOut}
 use Rattle.schedule.specs.declared.Covered.{Covered}
 use Rattle.schedule.specs.declared.Covered.the-variants.{Cover, Refused as NotCovered}
-use Rattle.schedule.specs.Call.{Call}
+use Rattle.schedule.specs.declared.Planned.{Planned}
+use Rattle.schedule.specs.declared.Planned.the-variants.{Plan, Refused as NotPlanned}
+use Rattle.schedule.specs.Call.{Call, called}
 use Rattle.schedule.specs.Cover.{coverCall}
+use Rattle.schedule.specs.Small.{smallCall}
 use Rattle.gantt.specs.declared.Drawn.{Drawn}
 use Rattle.gantt.specs.declared.Drawn.the-variants.{Length as PageLength, Refused as NotDrawn}
 use Rattle.gantt.specs.Draw.{DrawCall, drawCall}
@@ -134,3 +137,16 @@ withNumber c = drawReturned (drawnNumber (c .answer)) (c .buffer)
 -- 02 §3: the page of a plan in the output, or the refusal's number and the output as it was
 unfoldable pub drawTimed : List ℕ → List ℕ → List ℕ → List ℕ → DrawReturned
 drawTimed file starts processors out = withNumber (drawCall file starts processors out)
+
+-- 0 for a plan, or the refusal's number
+abbrev pub plannedNumber : Planned → ℕ
+plannedNumber (Plan o) = 0
+plannedNumber (NotPlanned k) = k
+
+-- a call with a number for its answer
+abbrev pub numbered : Call Planned → Call ℕ
+numbered c = called (plannedNumber (c .answer)) (c .starts) (c .processors) (c .scratch)
+
+-- 02 §4: the planner's call with a small scratch, or the refusal's number
+unfoldable pub smallTimed : List ℕ → List ℕ → List ℕ → List ℕ → Call ℕ
+smallTimed file starts processors scratch = numbered (smallCall file starts processors scratch)

@@ -4,12 +4,14 @@ use gantt::Drawn;
 use job::Verdict;
 use job::Written;
 use schedule::Covered;
+use schedule::Planned;
 ghost use mathlib.Core.Path.{_≡_};
 ghost use Prim.Native.Nat.{_<_};
 ghost use lib.ListN.{getD};
 ghost use Rattle.job.specs.Read.{readJob, readingOf};
+ghost use Rattle.schedule.specs.Call.{called};
 ghost use Rattle.timing.specs.Timing.{writtenNumber, numberAt, Copied, refusalIn, coverReturned, coverTimed};
-ghost use Rattle.timing.specs.Timing.{drawnNumber, drawReturned, drawTimed};
+ghost use Rattle.timing.specs.Timing.{drawnNumber, drawReturned, drawTimed, plannedNumber, smallTimed};
 
 // 0 for a job that was written, or the refusal's number.
 fn written_number(written: Written) -> u32
@@ -161,4 +163,29 @@ pub extern "C" fn timing_draw(file: &[u8], starts: &[u32], processors: &[u8], ou
 {
     let drawn = gantt::draw(file, starts, processors, out);
     drawn_number(drawn)
+}
+
+// 0 for a plan, or the refusal's number.
+fn planned_number(planned: Planned) -> u32
+    ensures { λ r. ⌜ r ≡ plannedNumber planned ⌝ }
+{
+    match planned {
+        Planned::Plan(_) => 0,
+        Planned::Refused(number) => base::wide8(number),
+    }
+}
+
+// Plans the job of a file with 512 places of scratch: 0, or the refusal's number.
+#[no_mangle]
+pub extern "C" fn timing_small(
+    file: &[u8],
+    starts: &mut [u32],
+    processors: &mut [u8],
+    scratch: &mut [u32],
+) -> u32
+    ensures { λ r. ⌜ called r (now (starts .exit)) (now (processors .exit)) (now (scratch .exit)) ≡
+        smallTimed (now (file .entry)) (now (starts .entry)) (now (processors .entry)) (now (scratch .entry)) ⌝ }
+{
+    let planned = schedule::plan_small(file, starts, processors, scratch);
+    planned_number(planned)
 }
