@@ -26,7 +26,9 @@ use Rattle.schedule.specs.declared.Outcome.{Outcome}
 use Rattle.schedule.specs.declared.Figures.{Figures}
 use Rattle.schedule.specs.Call.{called, CallNumber}
 use Rattle.schedule.specs.Plan.{planCall}
+use Rattle.schedule.specs.Small.{smallCall}
 use Rattle.schedule.specs.Cover.{coverCall}
+use Rattle.schedule.specs.SmallPlan.{small-answered, small-number, small-cause, small-refused}
 use Rattle.schedule.specs.Check.{CheckerNumber, checkFor, checkCall}
 use Rattle.job.specs.Accepted.{refused-is}
 use Rattle.kelvrist.specs.PlanBytes.{returned, processorIn, startIn, planBytesCall, checkBytesCall}
@@ -71,6 +73,17 @@ module _ (file : List ℕ) where
         ⊎ ((k ≡ 9) × (j : Job) × (readJob file ≡ accepted j)
         × ((length starts < tasks (instance j)) ⊎ ((length processors < tasks (instance j)) ⊎ (length scratch < 4096)))))
     planner-refuses k = (plan-cause file starts processors scratch k, plan-number file starts processors scratch k)
+
+    -- the planner for small controllers (02 §4) does as the planner does, "only 9 has the new length"
+    pub small-answers : ((o : Outcome) × (smallCall file starts processors scratch .answer ≡ Plan o))
+        ⊎ ((k : ℕ) × (smallCall file starts processors scratch .answer ≡ NotPlanned k) × CallNumber k)
+    small-answers = small-answered file starts processors scratch
+
+    pub small-refuses : (k : ℕ) → smallCall file starts processors scratch .answer ≡ NotPlanned k
+        ↔ ((readJob file ≡ refused k)
+        ⊎ ((k ≡ 9) × (j : Job) × (readJob file ≡ accepted j)
+        × ((length starts < tasks (instance j)) ⊎ ((length processors < tasks (instance j)) ⊎ (length scratch < 512)))))
+    small-refuses k = (small-cause file starts processors scratch k, small-number file starts processors scratch k)
 
     -- the cover call accepts, or refuses by one of them
     pub cover-answers : ((f : Figures) × (coverCall file starts processors scratch .answer ≡ Cover f))
@@ -148,10 +161,14 @@ module _ (p : Platform) (m l : ℕ) (a : Arrays) (out : List ℕ) (h : Held a) w
   writer-leaves = write-leaves (writeAnswer m l held out) held out
 
 module _ (file starts processors scratch : List ℕ) (k : ℕ) where
-  -- the planner's three slices, and the cover call's
+  -- the planner's three slices, those of the planner for small controllers, and the cover call's
   pub planner-leaves : planCall file starts processors scratch .answer ≡ NotPlanned k
       → planCall file starts processors scratch ≡ called (NotPlanned k) starts processors scratch
   planner-leaves h = plan-refused file starts processors scratch k (plan-cause file starts processors scratch k h)
+
+  pub small-leaves : smallCall file starts processors scratch .answer ≡ NotPlanned k
+      → smallCall file starts processors scratch ≡ called (NotPlanned k) starts processors scratch
+  small-leaves h = small-refused file starts processors scratch k (small-cause file starts processors scratch k h)
 
   pub cover-leaves : coverCall file starts processors scratch .answer ≡ NotCovered k
       → coverCall file starts processors scratch ≡ called (NotCovered k) starts processors scratch

@@ -1,12 +1,13 @@
 -- Demand 2 of the notice: the plan is the planning rule's and C the walk's, the checker accepts exactly the plans that keep the rules, and
 -- no file loses anything.
 use mathlib.Core.Logic.{_↔_}
-use mathlib.Core.Path.{_≡_, refl, ap}
+use mathlib.Core.Path.{_≡_, refl, ap, sym, _∙_}
 use mathlib.Core.List.{List, _++_}
 use Prim.Native.Nat.{ℕ, _*_, _≤_, _<_}
 use native.Mathlib.Omega.{arith}
 use lib.ListN.{length, getD, take, drop}
 use Rattle.base.specs.Number.{Bytes}
+use Rattle.base.specs.Slices.{filled}
 use Rattle.job.specs.declared.Arrays.{Arrays}
 use Rattle.job.specs.declared.Platform.{Platform}
 use Rattle.job.specs.declared.Written.the-variants.{Length}
@@ -29,6 +30,8 @@ use Rattle.schedule.specs.declared.Checked.the-variants.{Yes}
 use Rattle.schedule.specs.declared.Outcome.{Outcome}
 use Rattle.schedule.specs.declared.Figures.{Figures}
 use Rattle.schedule.specs.Plan.{outcome, endOf, planCall}
+use Rattle.schedule.specs.Small.{smallCall}
+use Rattle.schedule.specs.SmallPlan.{same-plan, largerScratch, as-larger, scratch-zero, small-accepted}
 use Rattle.schedule.specs.Cover.{coverCall}
 use Rattle.schedule.specs.Cover.{figures as figuresOf}
 use Rattle.schedule.specs.Check.{checkCall}
@@ -69,7 +72,30 @@ plan-is-etf file starts processors scratch o h =
       processors-are = λ T b. slices-hold P T (omega (arith, m-is)) .1;
     }
 
--- and what the call from C leaves in the plan's bytes
+-- 02 §4: "For each job it gives the same starts, boards and refusals as the larger entry": the planner for small controllers and the
+-- planner, each with room in its scratch, whatever the other slices are
+pub small-as-planner : (file starts processors scratch larger : List ℕ) → 512 ≤ length scratch → 4096 ≤ length larger
+    → (smallCall file starts processors scratch .answer ≡ planCall file starts processors larger .answer)
+    × (smallCall file starts processors scratch .starts ≡ planCall file starts processors larger .starts)
+    × (smallCall file starts processors scratch .processors ≡ planCall file starts processors larger .processors)
+small-as-planner file starts processors scratch larger a b =
+    let same = same-plan file starts processors scratch larger a b in
+    (same .answers, same .starts-are, same .processors-are)
+
+-- so its plan is the planning rule's, too, with nothing said of a larger scratch; its own is 0 in 512 places and else as it was
+module _ (file starts processors scratch : List ℕ) (o : Outcome) (h : smallCall file starts processors scratch .answer ≡ Plan o) where
+  pub small-is-etf : ByTheRule file (o .tasks) (o .end)
+      (λ T. getD (smallCall file starts processors scratch .starts) T 0)
+      (λ T. getD (smallCall file starts processors scratch .processors) T 0)
+  small-is-etf =
+      let same = as-larger file starts processors scratch o h in
+      rw (same .starts-are, same .processors-are)
+      (plan-is-etf file starts processors largerScratch o (sym (same .answers) ∙ h))
+
+  pub small-scratch : smallCall file starts processors scratch .scratch ≡ filled (λ x. 0) 512 scratch
+  small-scratch = scratch-zero file starts processors scratch o h
+
+-- and what the calls from C, which are one call, leave in the plan's bytes
 pub bytes-are-etf : (file plan : List ℕ) → planBytesCall file plan .number ≡ 0
     → (m E : ℕ) × ByTheRule file m E (startIn (planBytesCall file plan .plan)) (processorIn (planBytesCall file plan .plan))
 bytes-are-etf file plan h =
@@ -151,6 +177,11 @@ module _ (file : List ℕ) (j : Job) (e : readJob file ≡ accepted j) where
 pub own-plan-accepted : (file starts processors scratch : List ℕ) (o : Outcome) → planCall file starts processors scratch .answer ≡ Plan o
     → checkCall file (planCall file starts processors scratch .starts) (planCall file starts processors scratch .processors) ≡ Yes
 own-plan-accepted = slices-accepted
+
+pub small-plan-accepted : (file starts processors scratch : List ℕ) (o : Outcome)
+    → smallCall file starts processors scratch .answer ≡ Plan o
+    → checkCall file (smallCall file starts processors scratch .starts) (smallCall file starts processors scratch .processors) ≡ Yes
+small-plan-accepted = small-accepted
 
 pub own-bytes-accepted : (file plan : List ℕ) → planBytesCall file plan .number ≡ 0
     → checkBytesCall file (planBytesCall file plan .plan) ≡ 0

@@ -1,5 +1,5 @@
 -- Demand 3 of the notice: how far from the best the planner's plan can be, by the numbers that the two calls return.
-use mathlib.Core.Path.{_≡_, refl, ap, _∙_}
+use mathlib.Core.Path.{_≡_, refl, ap, sym, _∙_}
 use mathlib.Core.List.{List, []}
 use Prim.Native.Nat.{ℕ, _+_, _*_, _-_, _≤_}
 use native.Mathlib.Nat.{add-zero}
@@ -21,6 +21,8 @@ use Rattle.schedule.specs.declared.Covered.the-variants.{Cover}
 use Rattle.schedule.specs.declared.Outcome.{Outcome}
 use Rattle.schedule.specs.declared.Figures.{Figures}
 use Rattle.schedule.specs.Plan.{endOf, outcome, planCall}
+use Rattle.schedule.specs.Small.{smallCall}
+use Rattle.schedule.specs.SmallPlan.{largerScratch, as-larger}
 use Rattle.schedule.specs.Cover.{figures, coverCall}
 use Rattle.schedule.specs.Lent.{HasRoom}
 use Rattle.schedule.specs.Answered.{one-job}
@@ -79,6 +81,14 @@ worst-case file o f starts processors scratch p starts₂ processors₂ scratch�
               rw (e, g) (rw (without j (accepted-job file j a) n .1, add-zero (cover (instance j))) at (each S .end-within));
           some-schedule = ideal;
         }
+
+-- 02 §4: the same of the end that the planner for small controllers reports
+pub small-worst-case : (file : List ℕ) (o : Outcome) (f : Figures)
+    → (starts processors scratch : List ℕ) → smallCall file starts processors scratch .answer ≡ Plan o
+    → (starts₂ processors₂ scratch₂ : List ℕ) → coverCall file starts₂ processors₂ scratch₂ .answer ≡ Cover f
+    → Promised file (o .end) (f .cover) (f .dearest)
+small-worst-case file o f starts processors scratch p =
+    worst-case file o f starts processors largerScratch (sym (as-larger file starts processors scratch o p .answers) ∙ p)
 
 -- what both calls answer for a file of m tasks, each with slices of its own
 pub record Reported (file : List ℕ) (m : ℕ) (starts processors scratch starts₂ processors₂ scratch₂ : List ℕ) : Type 0 where
