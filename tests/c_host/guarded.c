@@ -1,4 +1,4 @@
-/* The three calls. What is lent stands between guard bytes in a field of fill bytes; after the call every byte
+/* The four calls. What is lent stands between guard bytes in a field of fill bytes; after the call every byte
  * that it may not alter is held to what it was. */
 #include <string.h>
 
@@ -37,18 +37,36 @@ static void unaltered(const char *call, const struct field *field, size_t free)
     }
 }
 
+typedef uint32_t planner(const uint8_t *job, size_t job_length, uint8_t *plan, size_t plan_length);
+
 /* Plans into a buffer of the plan's length, which holds fill bytes before. */
-uint32_t call_plan(const struct file *file, size_t tasks, struct plan *plan)
+static uint32_t plan_by(const char *call, planner *planner, const struct file *file, size_t tasks, struct plan *plan)
 {
     memset(plan->bytes, fill, sizeof plan->bytes);
     uint8_t *job = lay(&jobs, file->bytes, file->length);
     uint8_t *lent = lay(&plans, plan->bytes, plan->length);
-    uint32_t answer = kelvrist_plan(job, file->length, lent, plan->length);
+    uint32_t answer = planner(job, file->length, lent, plan->length);
 
     calls++;
-    unaltered("kelvrist_plan", &jobs, 0);
-    unaltered("kelvrist_plan", &plans, answer == 0 ? 5 * tasks : 0);
+    unaltered(call, &jobs, 0);
+    unaltered(call, &plans, answer == 0 ? 5 * tasks : 0);
     memcpy(plan->bytes, lent, plan->length);
+    return answer;
+}
+
+/* Plans by kelvrist_plan, and holds kelvrist_plan_small to its answer and its bytes. */
+uint32_t call_plan(const struct file *file, size_t tasks, struct plan *plan)
+{
+    struct plan other = {.length = plan->length};
+    uint32_t answer = plan_by("kelvrist_plan", kelvrist_plan, file, tasks, plan);
+    uint32_t same = plan_by("kelvrist_plan_small", kelvrist_plan_small, file, tasks, &other);
+
+    if (same != answer)
+        fail("kelvrist_plan_small returns %u and kelvrist_plan %u", same, answer);
+    for (size_t i = 0; i < plan->length; i++)
+        if (other.bytes[i] != plan->bytes[i])
+            fail("kelvrist_plan_small leaves %02x at place %zu of the plan and kelvrist_plan %02x", other.bytes[i], i,
+                 plan->bytes[i]);
     return answer;
 }
 

@@ -70,7 +70,7 @@ uint32_t judge(const struct job *job, const struct plan *plan);
 /* draw.c: the page of a good plan for a job, by the documents and without the library. */
 struct page page_of(const struct job *job, const struct plan *plan);
 
-/* guarded.c: the three calls, with guard bytes around what is lent. */
+/* guarded.c: the four calls, with guard bytes around what is lent. Each plan is made by both planners. */
 uint32_t call_plan(const struct file *file, size_t tasks, struct plan *plan);
 uint32_t call_check(const struct file *file, const struct plan *plan);
 uint32_t call_page(const struct file *file, const struct plan *plan, uint32_t processors, struct page *page);

@@ -1,4 +1,4 @@
-/* The C host: calls planner, checker and page as the station controller does, from C, on the documents' cases and others.
+/* The C host: calls both planners, checker and page as the station controller does, from C, on the documents' cases and others.
  * Each group runs with two fill bytes, so that a byte written where none is due cannot look like what was there. */
 #include <stdarg.h>
 #include <stdio.h>

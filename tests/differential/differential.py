@@ -1,12 +1,12 @@
 #!/usr/bin/env python3
-"""Holds the three calls of libkelvrist.a, and the cover call and the page of libtiming.a, to the reference, tests/rules.py, on
-random jobs and plans; the cover call also on the files among the cases of crate vectors.
+"""Holds the four calls of libkelvrist.a, and the cover call, the small planner and the page of libtiming.a, to the reference,
+tests/rules.py, on random jobs and plans; planners and cover call also on the files among the cases of crate vectors.
 
     differential.py [seed=N] [jobs=N] [only=N] [library=FILE] [timing=FILE]
 
 A random seed, which is printed, and 5,000 jobs if not told. A difference prints the seed, the job's number and its bytes, and
-ends the program; only=N runs that job alone, jobs=0 the cases alone. library=FILE takes another archive for planner, checker and
-the page of a plan's bytes, timing=FILE another for the cover call and the page of a plan's slices, to see that a wrong one is caught.
+ends the program; only=N runs that job alone, jobs=0 the cases alone. library=FILE takes another archive for planners, checker and
+the page of a plan's bytes, timing=FILE another for the calls on slices, to see that a wrong one is caught.
 """
 import random
 import struct
@@ -25,7 +25,7 @@ from vectors.plans import as_bytes, as_plan, handed_in  # noqa: E402
 
 STDIN = TOP / "crates" / "vectors" / "stdin"
 ARCHIVES = {"library": "target/staticlib/libkelvrist.a", "timing": "target/staticlib/libtiming.a"}
-SCRATCH = 4096
+SCRATCH, SMALL_SCRATCH = 4096, 512
 
 
 class Differs(Exception):
@@ -38,11 +38,11 @@ def as_words(numbers):
 
 
 class File:
-    """A job's bytes and what the reference says of them: a refusal's number, or 0, the job, its plan, what the cover call writes to
-    the front of each slice, and the pages of plans that were asked for."""
+    """A job's bytes and what the reference says of them: a refusal's number, or 0, the job, its plan, what the cover call and the
+    small planner write to the front of each slice, and the pages of plans that were asked for."""
 
     def __init__(self, data):
-        self.data, self.refusal, self.job, self.plan, self.covered, self.pages = data, 0, None, [], [], {}
+        self.data, self.refusal, self.job, self.plan, self.written, self.pages = data, 0, None, [], {}, {}
         try:
             self.job = rules.read(data)
         except rules.Refused as refused:
@@ -50,16 +50,19 @@ class File:
             return
         planned = rules.plan(self.job)
         self.plan = list(zip(planned.board, planned.start))
-        self.covered = [as_words(planned.start), bytes(planned.board), as_words(planned.arrival),
-                        as_words([rules.cover(self.job, planned), rules.dearest(self.job)])]
+        self.written["timing_cover"] = [as_words(planned.start), bytes(planned.board), as_words(planned.arrival),
+                                        as_words([rules.cover(self.job, planned), rules.dearest(self.job)])]
+        starts, processors, scratch = [1] * len(self.plan), [1] * len(self.plan), [1] * SMALL_SCRATCH
+        rules.planner(data, starts, processors, scratch, "small")
+        self.written["timing_small"] = [as_words(starts), bytes(processors), as_words(scratch)]
 
     def answer(self, room):
         """The answer as far as the job and the plan's length go."""
         return self.refusal or (9 if room < 5 * len(self.plan) else 0)
 
-    def cover_answer(self, starts, processors, scratch, output):
-        """The answer of the cover call by the places of its slices."""
-        return self.refusal or (9 if min(starts, processors) < len(self.plan) or scratch < SCRATCH or output < 2 else 0)
+    def filled_answer(self, call, rooms):
+        """The answer of a call that fills slices, by the places that they have."""
+        return self.refusal or (9 if any(room < asked for room, asked in zip(rooms, places(call, len(self.plan)))) else 0)
 
     def page_length(self):
         return rules.page_length(self.job.boards) if self.job else 0
@@ -82,9 +85,13 @@ def in_slices(rows):
     return [start for _, start in rows], [p for p, _ in rows]
 
 
-def some_rooms(dice, m):
-    """Places of starts, processors, scratch and output: just enough, more, then too few in one slice after the other."""
-    enough = [m, m, SCRATCH, 2]
+def places(call, m):
+    """The places that a call asks for of starts, processors and scratch, and the cover call of its output."""
+    return {"timing_cover": [m, m, SCRATCH, 2], "timing_small": [m, m, SMALL_SCRATCH]}[call]
+
+
+def some_rooms(dice, enough):
+    """Places of the slices: just enough, more, then too few in one slice after the other."""
     yield enough
     yield [room + dice.between(1, 9) for room in enough]
     for slot, room in enumerate(enough):
@@ -96,18 +103,18 @@ class Held:
 
     def __init__(self, schedule, timing):
         self.schedule, self.timing = schedule, timing
-        self.plan_answers, self.check_answers, self.cover_answers = Counter(), Counter(), Counter()
-        self.page_answers, self.draw_answers = Counter(), Counter()
+        calls = *schedule.PLANNERS, "kelvrist_check", "timing_cover", "timing_small", "kelvrist_page", "timing_draw"
+        self.answers = {call: Counter() for call in calls}
 
-    def plan(self, file, room, fill):
+    def plan(self, call, file, room, fill):
         due = file.answer(room)
         written = as_bytes(file.plan) if due == 0 else b""
-        answer, after = self.schedule.plan(file.data, room, fill)
+        answer, after = self.schedule.plan(call, file.data, room, fill)
         if answer != due:
-            raise Differs(f"kelvrist_plan with {room} bytes returns {answer}, the reference says {due}")
+            raise Differs(f"{call} with {room} bytes returns {answer}, the reference says {due}")
         if after != written + bytes([fill]) * (room - len(written)):
-            raise Differs(f"kelvrist_plan returns {answer} and leaves the plan [{after.hex()}], the reference says [{written.hex()}]")
-        self.plan_answers[answer] += 1
+            raise Differs(f"{call} returns {answer} and leaves the plan [{after.hex()}], the reference says [{written.hex()}]")
+        self.answers[call][answer] += 1
 
     def check(self, file, handed, fill):
         due = file.answer(len(handed))
@@ -117,35 +124,35 @@ class Held:
         answer = self.schedule.check(file.data, handed, fill)
         if answer != due:
             raise Differs(f"kelvrist_check of the plan [{handed.hex()}] returns {answer}, the reference says {due}")
-        self.check_answers[answer] += 1
+        self.answers["kelvrist_check"][answer] += 1
 
-    def cover(self, file, rooms, fill):
-        due = file.cover_answer(*rooms)
-        written = file.covered if due == 0 else [b""] * len(rooms)
-        answer, after = self.timing.cover(file.data, rooms, fill)
+    def filled(self, call, file, rooms, fill):
+        due = file.filled_answer(call, rooms)
+        written = file.written[call] if due == 0 else [b""] * len(rooms)
+        answer, after = self.timing.filled(call, file.data, rooms, fill)
         if answer != due:
-            raise Differs(f"timing_cover with {rooms} places returns {answer}, the reference says {due}")
+            raise Differs(f"{call} with {rooms} places returns {answer}, the reference says {due}")
         for (name, width), now, front in zip(self.timing.SLICES.items(), after, written):
             left = front + bytes([fill]) * (len(now) - len(front))
             if now != left:
                 at = next(at for at in range(0, len(now), width) if now[at : at + width] != left[at : at + width])
                 found, told = (rules.number(data[at : at + width]) for data in (now, left))
-                raise Differs(f"timing_cover with {rooms} places returns {answer} and leaves {found} at place {at // width} of the {name}, "
+                raise Differs(f"{call} with {rooms} places returns {answer} and leaves {found} at place {at // width} of the {name}, "
                               f"the reference says {told}")
-        self.cover_answers[answer] += 1
+        self.answers[call][answer] += 1
 
     def page(self, file, handed, room, fill):
         due = file.answer(len(handed)), b""
         if due[0] == 0:
             due = file.drawn(*in_slices(as_plan(handed, len(file.plan))), room)
         self.same_page(f"kelvrist_page of the plan [{handed.hex()}]", self.schedule.page(file.data, handed, room, fill), due, room, fill)
-        self.page_answers[due[0]] += 1
+        self.answers["kelvrist_page"][due[0]] += 1
 
     def draw(self, file, starts, processors, room, fill):
         due = file.drawn(starts, processors, room)
         found = self.timing.draw(file.data, as_words(starts), bytes(processors), room, fill)
         self.same_page(f"timing_draw of the starts {starts} and the processors {processors}", found, due, room, fill)
-        self.draw_answers[due[0]] += 1
+        self.answers["timing_draw"][due[0]] += 1
 
     def same_page(self, call, found, due, room, fill):
         """Holds an answer and the buffer afterwards to those that are due."""
@@ -179,14 +186,22 @@ class Held:
             self.drawn(dice, file, handed, length)
             self.drawn(dice, file, handed, dice.one_of([length - 1, length - 1, dice.below(length), length + dice.between(1, 9), 1120]))
 
-    def covers(self, dice, file):
-        for rooms in some_rooms(dice, len(file.plan) or dice.between(1, 256)):
-            self.cover(file, rooms, dice.below(256))
+    def slices(self, dice, file):
+        """The cover call and the small planner."""
+        m = len(file.plan) or dice.between(1, 256)
+        for call in ("timing_cover", "timing_small"):
+            for rooms in some_rooms(dice, places(call, m)):
+                self.filled(call, file, rooms, dice.below(256))
 
     def plans(self, dice, file):
+        """Both planners in the same buffers."""
         need = 5 * len(file.plan)
         for room in (need, need + dice.between(1, 9), dice.one_of([0, max(0, need - 1), dice.below(need + 1), 1280])):
-            self.plan(file, room, dice.below(256))
+            fill = dice.below(256)
+            for call in self.schedule.PLANNERS:
+                self.plan(call, file, room, fill)
+
+    def checks(self, dice, file):
         if file.refusal:
             for room in (0, dice.between(1, 40), 1280):
                 self.check(file, bytes([dice.below(256)]) * room, dice.below(256))
@@ -237,22 +252,23 @@ def main(words):
     try:
         for number, data in enumerate(cases):
             name, again = f"file {number} of the cases", "jobs=0"
-            held.covers(Dice(seed * 2**32 + 2**31 + number), File(data))
+            dice, file = Dice(seed * 2**32 + 2**31 + number), File(data)
+            held.slices(dice, file)
+            held.plans(dice, file)
         for number in numbers:
             dice = Dice(seed * 2**32 + number)
             name, again, data = f"job {number}", f"only={number}", some_file(dice)
             file = File(data)
             held.plans(dice, file)
-            held.covers(dice, file)
+            held.checks(dice, file)
+            held.slices(dice, file)
             held.pages(dice, file)
     except (Differs, library.Altered) as trouble:
         print(f"FAILED: seed {seed}, {name}: {trouble}\njob [{data.hex()}]\nto run it again: seed={seed} {again}")
         return 1
-    answers = {"kelvrist_plan": held.plan_answers, "kelvrist_check": held.check_answers, "timing_cover": held.cover_answers,
-               "kelvrist_page": held.page_answers, "timing_draw": held.draw_answers}
-    for name, tallied in answers.items():
+    for name, tallied in held.answers.items():
         print(f"{name} answered {tally(tallied)}")
-    print(f"differential: {what}, {sum(sum(tallied.values()) for tallied in answers.values())} calls, 0 differ")
+    print(f"differential: {what}, {sum(sum(tallied.values()) for tallied in held.answers.values())} calls, 0 differ")
     return 0
 
 

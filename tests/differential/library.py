@@ -1,5 +1,5 @@
-"""The three calls of libkelvrist.a, and the cover call and the page of libtiming.a, by ctypes, with guard bytes around what is lent
-to them."""
+"""The four calls of libkelvrist.a, and the cover call, the small planner and the page of libtiming.a, by ctypes, with guard bytes
+around what is lent to them."""
 import ctypes
 import shutil
 import subprocess
@@ -36,21 +36,22 @@ class Lent:
 
 
 class Schedule:
-    """The planner, the checker and the page from C."""
+    """The planners, the checker and the page from C."""
 
     CRATE = "kelvrist"
+    PLANNERS = ("kelvrist_plan", "kelvrist_plan_small")
 
     def __init__(self, entries):
         self.entries = entries
-        for entry in (entries.kelvrist_plan, entries.kelvrist_check, entries.kelvrist_page):
-            entry.restype = ctypes.c_uint32
+        for name in (*self.PLANNERS, "kelvrist_check", "kelvrist_page"):
+            getattr(entries, name).restype = ctypes.c_uint32
 
-    def plan(self, data, room, fill):
-        """The answer, and the plan's buffer afterwards; it had `room` fill bytes before."""
+    def plan(self, call, data, room, fill):
+        """The answer of one of the planners, and the plan's buffer afterwards; it had `room` fill bytes before."""
         job, plan = Lent("job", data, fill), Lent("plan", bytes([fill]) * room, fill)
-        answer = self.entries.kelvrist_plan(*job.words(), *plan.words())
-        job.back("kelvrist_plan", False)
-        return answer, plan.back("kelvrist_plan", True)
+        answer = getattr(self.entries, call)(*job.words(), *plan.words())
+        job.back(call, False)
+        return answer, plan.back(call, True)
 
     def check(self, data, handed, fill):
         job, plan = Lent("job", data, fill), Lent("plan", handed, fill)
@@ -69,24 +70,24 @@ class Schedule:
 
 
 class Timing:
-    """The cover call, and the page of a plan in slices."""
+    """The cover call and the small planner, and the page of a plan in slices."""
 
     CRATE = "timing"
-    SLICES = {"starts": 4, "processors": 1, "scratch": 4, "output": 4}  # and the bytes of a place
+    SLICES = {"starts": 4, "processors": 1, "scratch": 4, "output": 4}  # and the bytes of a place; the small planner has no output
 
     def __init__(self, entries):
         self.entries = entries
-        for entry in (entries.timing_cover, entries.timing_draw):
+        for entry in (entries.timing_cover, entries.timing_small, entries.timing_draw):
             entry.restype = ctypes.c_uint32
 
-    def cover(self, data, rooms, fill):
-        """The answer, and the four slices afterwards; they had so many places of fill bytes before."""
+    def filled(self, call, data, rooms, fill):
+        """The answer of a call that fills slices, and the slices afterwards; they had so many places of fill bytes before."""
         job = Lent("job", data, fill)
         slices = [Lent(name, bytes([fill]) * (width * room), fill, width)
                   for (name, width), room in zip(self.SLICES.items(), rooms)]
-        answer = self.entries.timing_cover(*job.words(), *(word for lent in slices for word in lent.words()))
-        job.back("timing_cover", False)
-        return answer, [lent.back("timing_cover", True) for lent in slices]
+        answer = getattr(self.entries, call)(*job.words(), *(word for lent in slices for word in lent.words()))
+        job.back(call, False)
+        return answer, [lent.back(call, True) for lent in slices]
 
     def draw(self, data, starts, processors, room, fill):
         """The answer, and the page's buffer afterwards; starts and processors are bytes, 4 and 1 a place."""

@@ -1,7 +1,7 @@
 """A case for each entry above the reader: its body, and the lines that it must give."""
 import rules
 from vectors.plans import as_bytes
-from vectors.told import SCRATCH, digest, told
+from vectors.told import SCRATCH, SMALL_SCRATCH, digest, told
 
 # Numbers that no planner writes: no planned time passes 460,000,000, and a processor is below 16.
 FILLS = (4_000_000_007, 3_500_000_009, 0xEE)
@@ -23,7 +23,7 @@ def yes_or(number):
     return words("refused", number) if number else "yes"
 
 
-# ---- the planner and the cover call
+# ---- the planner, the cover call and the planner's small entry
 
 def slices_line(file, head, starts, processors, scratch):
     return words(*head, "starts", *starts, "processors", *processors, "scratch", digest(scratch),
@@ -35,18 +35,33 @@ def front(whole, begin):
     return begin + whole[len(begin):]
 
 
+def small_line(data, slices):
+    """The planner's small entry on these slices; of the scratch as many places are left out as it asks for fewer, where there are
+    as many."""
+    fewer = SCRATCH - SMALL_SCRATCH
+    starts, processors, scratch = map(list, slices)
+    scratch = scratch[fewer:] if len(scratch) >= fewer else scratch
+    try:
+        answer = rules.planner(data, starts, processors, scratch, "small")
+    except rules.Refused as refused:
+        answer = ["refused", refused.number]
+    return words("small", *answer, digest(starts + processors + scratch))
+
+
 def plan(cases, data, starts=None, processors=None, scratch=SCRATCH, fills=FILLS):
-    """The planner and the cover call, with slices of so many places: as many as there are tasks if not told."""
+    """The planner, the cover call and the planner's small entry, with slices of so many places: as many as there are tasks if not
+    told."""
     file = told(data)
     lengths = [file.tasks if starts is None else starts, file.tasks if processors is None else processors, scratch]
-    slices = [[fill] * length for fill, length in zip((fills[0], fills[2], fills[1]), lengths)]
+    lent = [[fill] * length for fill, length in zip((fills[0], fills[2], fills[1]), lengths)]
     refusal = file.refusal or (9 if min(lengths[:2]) < file.tasks or scratch < SCRATCH else 0)
-    planned, covered = ["refused", refusal], ["refused", refusal]
+    planned, covered, slices = ["refused", refusal], ["refused", refusal], lent
     if not refusal:
         planned, covered = [file.tasks, file.plan.end], [file.cover, file.dearest]
-        slices = [front(whole, begin) for whole, begin in zip(slices, (file.plan.start, file.plan.board, file.plan.arrival))]
+        slices = [front(whole, begin) for whole, begin in zip(lent, (file.plan.start, file.plan.board, file.plan.arrival))]
     body = b"".join(map(two, lengths)) + four(fills[0]) + four(fills[1]) + bytes([fills[2]]) + data
-    cases.add(b"p", body, slices_line(file, ["plan", *planned], *slices), slices_line(file, ["cover", *covered], *slices))
+    cases.add(b"p", body, slices_line(file, ["plan", *planned], *slices), slices_line(file, ["cover", *covered], *slices),
+              small_line(data, lent))
 
 
 # ---- the checker
@@ -78,7 +93,7 @@ def draw(cases, data, starts, processors, room=None, fill=FILLS[2]):
     cases.add(b"d", two(room) + bytes([fill]) + plan_and_file(data, starts, processors), *page.decode().splitlines(), line)
 
 
-# ---- the station controller's three calls
+# ---- the station controller's planner, checker and page
 
 def station_plan(cases, data, room=None, fill=FILLS[2]):
     """The station's planner, with a plan of so many bytes: as many as it fills if not told."""

@@ -4,7 +4,7 @@ from functools import lru_cache
 import rules
 from vectors.plans import as_bytes, as_plan
 
-SCRATCH = 4096
+SCRATCH, SMALL_SCRATCH = 4096, 512
 DIGEST = 4294967291
 
 

@@ -7,7 +7,7 @@
 //   w  the job writer                           s  the station's planner
 //   v  the job writer, with wires               b  the station's checker
 //   u  the job writer, with results and wires   g  the station's page
-//   p  the planner and the cover call           t  the listing
+//   p  planner, small entry and cover call      t  the listing
 //   c  the checker
 //
 // The body of 'r' is a file; the others' are in the files that run them.

@@ -1,5 +1,6 @@
 // A case of the planner and the cover call: what each answers, what it leaves in the three slices, and what the checker says of
-// the starts and processors there. Its body:
+// the starts and processors there. Then what the planner's small entry answers, and one digest of what it leaves in all three slices.
+// Its body:
 //
 //   0  length of the starts (2)        6  fill of the starts (4)       14  fill of the processors
 //   2  length of the processors (2)   10  fill of the scratch (4)      15  the file
@@ -13,7 +14,6 @@ ghost use Prim.Native.Nat.{_≤_};
 ghost use lib.ListN.{length};
 
 fn show_planned(planned: Planned) {
-    show::text(b"plan");
     match planned {
         Planned::Plan(outcome) => {
             show::word(number::wide(outcome.tasks));
@@ -50,6 +50,7 @@ fn show_slices(starts: &[u32], processors: &[u8], scratch: &[u32]) {
 }
 
 fn plan(file: &[u8], starts: &mut [u32], processors: &mut [u8], scratch: &mut [u32]) {
+    show::text(b"plan");
     show_planned(schedule::plan(file, starts, processors, scratch));
     show_slices(starts, processors, scratch);
     checking::check(file, starts, processors);
@@ -61,29 +62,53 @@ fn cover(file: &[u8], starts: &mut [u32], processors: &mut [u8], scratch: &mut [
     checking::check(file, starts, processors);
 }
 
-// The cover call or the planner.
-fn call(covers: bool, file: &[u8], starts: &mut [u32], processors: &mut [u8], scratch: &mut [u32]) {
-    if covers {
+fn small(file: &[u8], starts: &mut [u32], processors: &mut [u8], scratch: &mut [u32]) {
+    show::text(b"small");
+    show_planned(schedule::plan_small(file, starts, processors, scratch));
+    let front = show::with_numbers(0, starts);
+    let digest = show::with_bytes(front, processors);
+    show::word(show::with_numbers(digest, scratch));
+    show::text(b"\n");
+}
+
+// The planner (p), the cover call (c) or the planner's small entry (s).
+fn call(entry: u8, file: &[u8], starts: &mut [u32], processors: &mut [u8], scratch: &mut [u32]) {
+    if entry == b'c' {
         cover(file, starts, processors, scratch);
+        return;
+    }
+    if entry == b's' {
+        small(file, starts, processors, scratch);
         return;
     }
     plan(file, starts, processors, scratch);
 }
 
 // The call on slices of so many places that hold their fills.
-fn lend(covers: bool, body: &[u8], starts: usize, processors: usize, scratch: usize)
+fn lend(entry: u8, body: &[u8], starts: usize, processors: usize, scratch: usize)
     requires { ⌜ (15 ≤ length (now body)) × (starts ≤ 300) × (processors ≤ 300) × (scratch ≤ 4200) ⌝ }
 {
     let mut times = [number::four(body, 6) as u32; 300];
     let mut places = [body[14]; 300];
     let mut arrivals = [number::four(body, 10) as u32; 4200];
     call(
-        covers,
+        entry,
         &body[15..],
         &mut times[0..starts],
         &mut places[0..processors],
         &mut arrivals[0..scratch],
     );
+}
+
+// The scratch of the small entry: it asks for 512 places where the planner asks for 4,096, so 3,584 places less where there are as many.
+fn small_scratch(scratch: usize) -> usize
+    requires { ⌜ scratch ≤ 4200 ⌝ }
+    ensures { λ r. ⌜ r ≤ 4200 ⌝ }
+{
+    if scratch < 3584 {
+        return scratch;
+    }
+    scratch - 3584
 }
 
 pub fn case(body: &[u8]) {
@@ -102,6 +127,7 @@ pub fn case(body: &[u8]) {
     if 4200 < scratch {
         return;
     }
-    lend(false, body, starts, processors, scratch);
-    lend(true, body, starts, processors, scratch);
+    lend(b'p', body, starts, processors, scratch);
+    lend(b'c', body, starts, processors, scratch);
+    lend(b's', body, starts, processors, small_scratch(scratch));
 }

@@ -62,24 +62,40 @@ fn mixed(digest: u64, x: u64) -> u64
     (257 * digest + x) % 4294967291
 }
 
-// A digest of numbers that are too many to print.
-pub fn digest(numbers: &[u32]) {
+// A digest with more numbers.
+pub fn with_numbers(digest: u64, numbers: &[u32]) -> u64
+    requires { ⌜ digest < 4294967291 ⌝ }
+    ensures { λ r. ⌜ r < 4294967291 ⌝ }
+{
     let mut i: usize = 0;
-    let mut sum: u64 = 0;
+    let mut sum = digest;
     while i < numbers.len() {
         sum = mixed(sum, number::wide32(numbers[i]));
         i += 1;
     }
-    word(sum);
+    sum
 }
 
-// A digest of bytes that are too many to print.
-pub fn byte_digest(bytes: &[u8]) {
+// A digest with more bytes.
+pub fn with_bytes(digest: u64, bytes: &[u8]) -> u64
+    requires { ⌜ digest < 4294967291 ⌝ }
+    ensures { λ r. ⌜ r < 4294967291 ⌝ }
+{
     let mut i: usize = 0;
-    let mut sum: u64 = 0;
+    let mut sum = digest;
     while i < bytes.len() {
         sum = mixed(sum, number::wide8(bytes[i]));
         i += 1;
     }
-    word(sum);
+    sum
+}
+
+// A digest of numbers that are too many to print.
+pub fn digest(numbers: &[u32]) {
+    word(with_numbers(0, numbers));
+}
+
+// A digest of bytes that are too many to print.
+pub fn byte_digest(bytes: &[u8]) {
+    word(with_bytes(0, bytes));
 }

@@ -1,4 +1,4 @@
-// The cases of the three calls of the station controller.
+// The cases of the station controller's calls but for its small planner, which the C host and the differentials call.
 //
 // The planner's case: what it returns and leaves in the plan, and what the checker returns for that. Its body:
 //

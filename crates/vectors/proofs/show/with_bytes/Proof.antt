@@ -1,16 +1,16 @@
--- `vectors::show::byte_digest` is safe and ends. The measure is what is left of the bytes.
+-- `vectors::show::with_bytes` is safe and ends. The measure is what is left of the bytes.
 -- From turn to turn the digest is one: below the number that it is taken by. Assumes nothing.
 use lib.ListN.{length}
 use Prim.Native.Nat.{_-_, _<_}
 use borrow.Author.Needs.{needs}
-use Rattle.vectors.proofs.show.byte_digest.Statement.{statement}
-use Rattle.vectors.proofs.show.byte_digest.Tie as tie
+use Rattle.vectors.proofs.show.with_bytes.Statement.{statement}
+use Rattle.vectors.proofs.show.with_bytes.Tie as tie
 
 abbrev Inv-loop : tie.InvT-loop
-Inv-loop bytes i₀ sum₀ i sum = sum < 4294967291
+Inv-loop digest bytes i₀ sum₀ i sum = sum < 4294967291
 
 abbrev μ-loop : tie.MeasureT-loop
-μ-loop bytes i₀ sum₀ i sum = length bytes - i
+μ-loop digest bytes i₀ sum₀ i sum = length bytes - i
 
 loop-holds : tie.Need-loop-holds Inv-loop μ-loop
 loop-holds c = search needs
@@ -33,14 +33,11 @@ loop-less c = search needs
 loop-again : tie.Need-loop-again Inv-loop μ-loop
 loop-again c = search needs
 
-word-requires : tie.Need-word-requires Inv-loop μ-loop
-word-requires c κs = search needs
-
 returns : tie.Need-returns Inv-loop μ-loop
 returns c = search needs
 
-pub byte-digest-spec : {M : Type 1} → statement M
-byte-digest-spec =
+pub with-bytes-spec : {M : Type 1} → statement M
+with-bytes-spec =
     tie.close
     (tie.spec
     Inv-loop
@@ -52,5 +49,4 @@ byte-digest-spec =
     add-i
     loop-less
     loop-again
-    word-requires
     returns)

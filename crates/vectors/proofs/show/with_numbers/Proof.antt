@@ -1,16 +1,16 @@
--- `vectors::show::digest` is safe and ends. The measure is what is left of the numbers.
+-- `vectors::show::with_numbers` is safe and ends. The measure is what is left of the numbers.
 -- From turn to turn the digest is one: below the number that it is taken by. Assumes nothing.
 use lib.ListN.{length}
 use Prim.Native.Nat.{_-_, _<_}
 use borrow.Author.Needs.{needs}
-use Rattle.vectors.proofs.show.digest.Statement.{statement}
-use Rattle.vectors.proofs.show.digest.Tie as tie
+use Rattle.vectors.proofs.show.with_numbers.Statement.{statement}
+use Rattle.vectors.proofs.show.with_numbers.Tie as tie
 
 abbrev Inv-loop : tie.InvT-loop
-Inv-loop numbers i₀ sum₀ i sum = sum < 4294967291
+Inv-loop digest numbers i₀ sum₀ i sum = sum < 4294967291
 
 abbrev μ-loop : tie.MeasureT-loop
-μ-loop numbers i₀ sum₀ i sum = length numbers - i
+μ-loop digest numbers i₀ sum₀ i sum = length numbers - i
 
 loop-holds : tie.Need-loop-holds Inv-loop μ-loop
 loop-holds c = search needs
@@ -36,14 +36,11 @@ loop-less c = search needs
 loop-again : tie.Need-loop-again Inv-loop μ-loop
 loop-again c = search needs
 
-word-requires : tie.Need-word-requires Inv-loop μ-loop
-word-requires c κs = search needs
-
 returns : tie.Need-returns Inv-loop μ-loop
 returns c = search needs
 
-pub digest-spec : {M : Type 1} → statement M
-digest-spec =
+pub with-numbers-spec : {M : Type 1} → statement M
+with-numbers-spec =
     tie.close
     (tie.spec
     Inv-loop
@@ -56,5 +53,4 @@ digest-spec =
     add-i
     loop-less
     loop-again
-    word-requires
     returns)
