@@ -74,7 +74,7 @@ pub fn hold(cases: &[u8], lines: &str) {
     let mut held = 0;
     for (i, (what, body)) in all(cases).enumerate() {
         let due: Vec<_> = match what {
-            b'p' => lines.by_ref().take(2).collect(),
+            b'p' => lines.by_ref().take(3).collect(),
             b't' => {
                 let text = lines.by_ref();
                 text.take_while(|line| !line.starts_with("listing of"))

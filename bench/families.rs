@@ -1,4 +1,4 @@
-//! The jobs that planner, checker, cover call and page are timed on, in families: 256 tasks on 16 processors.
+//! The jobs that planner, small planner, checker, cover call and page are timed on, in families: 256 tasks on 16 processors.
 use std::collections::BTreeSet;
 
 use crate::dice::Dice;
@@ -173,6 +173,51 @@ fn worst() -> Vec<u8> {
     .file()
 }
 
+/// The slowest job for the small planner that is known.
+///
+/// Like `worst`, but four tasks begin at once and send to each ready task: 960 of the 1,024 edges that a job can have; with a fifth
+/// sender there would be fewer tasks. The planner, which keeps arrivals, does the same for four edges into a task as for two. The
+/// small planner goes over them in each round, and twice, as each task looked at takes the lead: to see whether the messages of one
+/// edge tell that it cannot, and to work out its arrivals at 16 processors. For the first it looks at one processor after the other
+/// until it finds one that the messages reach before the leader's start. Wires cost less the higher the processor is that they go
+/// to, so that this is the last one, or that of the sender, where messages take no time; and 12 tasks that go first leave the last
+/// four processors to the senders.
+fn worst_small() -> Vec<u8> {
+    let edges =
+        (16..TASKS).flat_map(|to| [12, 13, 14, 15].map(|from| (from, to, 2 * (TASKS - to))));
+    Job {
+        platform: [16, 3, 0],
+        wires: pairs(16).map(|(_, to)| 240 - 15 * to).collect(),
+        durations: vec![1; TASKS],
+        edges: edges.collect(),
+        results: Vec::new(),
+    }
+    .file()
+}
+
+/// The job for which the small planner takes longest beside the planner that is known.
+///
+/// As in `worst` each task looked at takes the lead, but 15 tasks that last keep all processors but one busy. So the planner
+/// looks at one arrival of each ready task, and the small planner goes over the eight edges into it, for 16 processors each. With
+/// more edges into a task there are fewer tasks, and what both planners do beside the search counts for more.
+fn one_free() -> Vec<u8> {
+    let (senders, last, ready) = (105..113, 113..128, 128..TASKS);
+    let mut durations = vec![1; TASKS];
+    durations[last].fill(1_000_000);
+    let edges = ready.flat_map(|to| {
+        let senders = senders.clone();
+        senders.map(move |from| (from, to, 2 * (TASKS - to)))
+    });
+    Job {
+        platform: [16, 0, 100],
+        wires: Vec::new(),
+        durations,
+        edges: edges.collect(),
+        results: Vec::new(),
+    }
+    .file()
+}
+
 /// The job for which the cover call takes longest beside the planner's call that is known.
 ///
 /// Equal tasks without edges: a task starts at the clock on the first free processor, so the planner looks at one pair to place
@@ -199,7 +244,7 @@ fn from_five(_: &mut Dice) -> Shape {
     all.take(1024).collect()
 }
 
-pub fn families() -> [Family; 12] {
+pub fn families() -> [Family; 14] {
     [
         family("chain", chain),
         family("fork-join", fork_join),
@@ -218,6 +263,14 @@ pub fn families() -> [Family; 12] {
         Family {
             name: "worst",
             files: vec![worst()],
+        },
+        Family {
+            name: "worst-small",
+            files: vec![worst_small()],
+        },
+        Family {
+            name: "one-free",
+            files: vec![one_free()],
         },
     ]
 }

@@ -1,7 +1,7 @@
-//! Times the job reader and writer, the planner, the checker, the cover call and the page against plain Rust ones, in one run, and
-//! prints the ratios; then the cover call against our planner. First it holds each against the other on the files of the cases of
-//! crate `vectors`, whose folder is the first argument, and more. Last it prints how much stack planner, checker, cover call and
-//! page take.
+//! Times the job reader and writer, the planner, the small planner, the checker, the cover call and the page against plain Rust ones,
+//! in one run, and prints the ratios; then the cover call and the small planner against our planner. First it holds each against the
+//! other on the files of the cases of crate `vectors`, whose folder is the first argument, and more. Last it prints how much stack
+//! planner, small planner, checker, cover call and page take.
 mod cases;
 mod checker;
 mod cover;
@@ -15,6 +15,8 @@ mod planner;
 mod plans;
 mod proved;
 mod reader;
+mod small;
+mod smalls;
 mod stack;
 mod tally;
 mod timing;
@@ -30,17 +32,22 @@ fn main() {
     reader::hold(&files);
     let jobs = plans::jobs(&files, &families);
     plans::hold(&jobs);
+    smalls::hold(&jobs);
     covers::hold(&jobs);
     pages::hold(&jobs);
 
     timing::head("ours", "Rust");
     reader::time();
     plans::time(&families);
+    smalls::time(&families);
     covers::time(&families);
     pages::time(&families);
     timing::head("cover", "plan");
     covers::time_beside_plan(&families);
+    timing::head("small", "plan");
+    smalls::time_beside_plan(&families);
     plans::measure_stack(&families);
+    smalls::measure_stack(&families);
     covers::measure_stack(&families);
     pages::measure_stack(&families);
 }

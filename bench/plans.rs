@@ -61,10 +61,15 @@ pub fn alter(dice: &mut Dice, plan: &mut Vec<u8>) {
     plan[at + 1..at + 5].copy_from_slice(&start.to_le_bytes());
 }
 
+/// Bytes of plans that are too short and long enough; the last has as many as it takes.
+pub fn rooms(tasks: usize) -> [usize; 4] {
+    [0, 5 * tasks - 1, 5 * tasks + 3, 5 * tasks]
+}
+
 /// The same number and bytes from both planners, in plans that are long enough and too short; gives the plan.
 fn hold_planners(file: &[u8], tasks: usize, tally: &mut Tally) -> Vec<u8> {
     let mut plan = Vec::new();
-    for room in [0, 5 * tasks - 1, 5 * tasks + 3, 5 * tasks] {
+    for room in rooms(tasks) {
         let mut ours = vec![0xEE; room];
         plan = ours.clone();
         let answer = proved::plan(file, &mut ours);
@@ -104,8 +109,8 @@ fn some_jobs(dice: &mut Dice) -> Vec<(Vec<u8>, usize)> {
     jobs
 }
 
-/// What planners, checkers, covers and pages are held on: random jobs, these files, and each job of the families. Beside each stands its
-/// number of tasks, or a greater one.
+/// What planners, small planners, checkers, covers and pages are held on: random jobs, these files, and each job of the families.
+/// Beside each stands its number of tasks, or a greater one.
 pub fn jobs(files: &[&[u8]], families: &[Family]) -> Vec<(Vec<u8>, usize)> {
     let mut jobs = some_jobs(&mut Dice::new(2));
     jobs.extend(files.iter().map(|file| (file.to_vec(), TASKS)));

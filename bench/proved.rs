@@ -27,11 +27,15 @@ macro_rules! placed {
 placed!(READ(*const u8, usize, usize): timing_read_at_0, timing_read_at_16, timing_read_at_32, timing_read_at_48);
 placed!(COPY(*const u8, usize, *mut u8, usize): timing_copy_at_0, timing_copy_at_16, timing_copy_at_32, timing_copy_at_48);
 placed!(PLAN(*const u8, usize, *mut u8, usize): kelvrist_plan_at_0, kelvrist_plan_at_16, kelvrist_plan_at_32, kelvrist_plan_at_48);
+placed!(PLAN_SMALL(*const u8, usize, *mut u8, usize):
+    kelvrist_plan_small_at_0, kelvrist_plan_small_at_16, kelvrist_plan_small_at_32, kelvrist_plan_small_at_48);
 placed!(CHECK(*const u8, usize, *const u8, usize): kelvrist_check_at_0, kelvrist_check_at_16, kelvrist_check_at_32, kelvrist_check_at_48);
 placed!(PAGE(*const u8, usize, *const u8, usize, *mut u8, usize):
     kelvrist_page_at_0, kelvrist_page_at_16, kelvrist_page_at_32, kelvrist_page_at_48);
 placed!(COVER(*const u8, usize, *mut u32, usize, *mut u8, usize, *mut u32, usize, *mut u32, usize):
     timing_cover_at_0, timing_cover_at_16, timing_cover_at_32, timing_cover_at_48);
+placed!(SMALL(*const u8, usize, *mut u32, usize, *mut u8, usize, *mut u32, usize):
+    timing_small_at_0, timing_small_at_16, timing_small_at_32, timing_small_at_48);
 placed!(DRAW(*const u8, usize, *const u32, usize, *const u8, usize, *mut u8, usize):
     timing_draw_at_0, timing_draw_at_16, timing_draw_at_32, timing_draw_at_48);
 
@@ -52,6 +56,10 @@ pub fn copy(file: &[u8], out: &mut [u8]) -> u32 {
 
 pub fn plan(job: &[u8], plan: &mut [u8]) -> u32 {
     unsafe { there(&PLAN)(job.as_ptr(), job.len(), plan.as_mut_ptr(), plan.len()) }
+}
+
+pub fn plan_small(job: &[u8], plan: &mut [u8]) -> u32 {
+    unsafe { there(&PLAN_SMALL)(job.as_ptr(), job.len(), plan.as_mut_ptr(), plan.len()) }
 }
 
 pub fn check(job: &[u8], plan: &[u8]) -> u32 {
@@ -82,6 +90,22 @@ pub fn cover(
     }
 }
 
+/// Plans a job into the slices with 512 places of scratch.
+pub fn small(file: &[u8], starts: &mut [u32], processors: &mut [u8], scratch: &mut [u32]) -> u32 {
+    unsafe {
+        there(&SMALL)(
+            file.as_ptr(),
+            file.len(),
+            starts.as_mut_ptr(),
+            starts.len(),
+            processors.as_mut_ptr(),
+            processors.len(),
+            scratch.as_mut_ptr(),
+            scratch.len(),
+        )
+    }
+}
+
 /// Draws a plan in `out`.
 pub fn draw(file: &[u8], starts: &[u32], processors: &[u8], out: &mut [u8]) -> u32 {
     unsafe {
@@ -98,10 +122,14 @@ pub fn draw(file: &[u8], starts: &[u32], processors: &[u8], out: &mut [u8]) -> u
     }
 }
 
-/// The addresses of the three calls on a job and a plan, by name; the last has a page after them.
-pub fn addresses() -> [(&'static str, usize); 3] {
+/// The addresses of the four calls on a job and a plan, by name; the last has a page after them.
+pub fn addresses() -> [(&'static str, usize); 4] {
     [
         ("kelvrist_plan", there(&PLAN) as *const () as usize),
+        (
+            "kelvrist_plan_small",
+            there(&PLAN_SMALL) as *const () as usize,
+        ),
         ("kelvrist_check", there(&CHECK) as *const () as usize),
         ("kelvrist_page", there(&PAGE) as *const () as usize),
     ]
@@ -109,6 +137,10 @@ pub fn addresses() -> [(&'static str, usize); 3] {
 
 pub fn cover_address() -> usize {
     there(&COVER) as *const () as usize
+}
+
+pub fn small_address() -> usize {
+    there(&SMALL) as *const () as usize
 }
 
 pub fn draw_address() -> usize {
