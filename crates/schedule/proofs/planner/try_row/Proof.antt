@@ -78,7 +78,8 @@ module _ (clock : ℕ) (at : ℕ → ℕ) (free : List ℕ) (count task : ℕ) w
 abbrev Inv-loop : tie.InvT-loop
 Inv-loop task clock row free count best₀ i₀ best i =
     (i ≤ count) × (clock < best .start)
-    × (firstBest best (rest clock (λ P. getD row P 0) free count task i) ≡ firstBest best₀ (rowBy clock (λ P. getD row P 0) free count task))
+    × (firstBest best (rest clock (λ P. getD row P 0) free count task i)
+    ≡ firstBest best₀ (rowBy clock (λ P. getD row P 0) free count task))
 
 abbrev μ-loop : tie.MeasureT-loop
 μ-loop task clock row free count best₀ i₀ best i = count - i
