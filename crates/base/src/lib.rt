@@ -1,7 +1,7 @@
-// Numbers of one width as numbers of another, and numbers over a byte.
+// Numbers of one width as numbers of another, numbers over a byte, and the lesser of two.
 ghost use mathlib.Core.Path.{_≡_};
 ghost use mathlib.Core.List.{[], _∷_};
-ghost use Prim.Native.Nat.{_<_};
+ghost use Prim.Native.Nat.{_<_, min};
 ghost use Rattle.base.specs.Number.{number};
 
 // A byte as a place in an array.
@@ -30,6 +30,13 @@ pub fn wide16(x: u16) -> u32
     ensures { λ r. ⌜ r ≡ x ⌝ }
 {
     x as u32
+}
+
+// The lesser of two numbers.
+pub fn least(a: usize, b: usize) -> usize
+    ensures { λ r. ⌜ r ≡ min a b ⌝ }
+{
+    if a < b { a } else { b }
 }
 
 // The number of 2 bytes, the low one first.

@@ -9,8 +9,7 @@ use lib.ListN.{length, getD, set}
 use Rattle.base.specs.Choice.{pick}
 use Rattle.base.specs.Lists.{values, upto, filter}
 use Rattle.base.specs.Rows.{sum, one-if, most}
-use Rattle.job.specs.declared.Platform.{Platform}
-use Rattle.job.specs.Limits.{mostUnit, mostDuration}
+use Rattle.job.specs.Limits.{mostDuration}
 use Rattle.etf.specs.Instance.{Instance, tasks}
 use Rattle.etf.specs.Bounds.{mostMessageTime, mostFinish}
 use Rattle.etf.specs.Topology.{entry}
@@ -181,18 +180,6 @@ pub record Placed (pair : Pair) (finish first last low m n : ℕ) (order : ℕ �
   pub busy-are : S′ .busy ≡ set (S .busy) (pair .processor) finish
   pub sent : Sent first last finish n row to counts (marked (pair .task) (S .inbox)) (S′ .inbox)
   pub skipped : Skipped (S′ .inbox .waiting) order low m r
-
--- ---- link costs
-
--- a platform of which a cost can be told: it has a topology, and no cost passes 32 bits
-pub record Wired (platform : Platform) : Type 0 where
-  pub few-processors : platform .processors ≤ 16
-  pub known-topology : platform .topology ≤ 3
-  pub small-unit : platform .unit ≤ mostUnit
-
--- the cost of the wire from p to q in an array of sixteen rows of sixteen
-unfoldable pub loaded : List ℕ → ℕ → ℕ → ℕ
-loaded wires p q = getD wires (16 * p + q) 0
 
 -- ---- the end
 

@@ -1,9 +1,7 @@
 // The planner, the cover and the checker (document 01).
 mod chains;
 mod checker;
-mod costs;
 mod delivery;
-mod hypercube;
 mod planner;
 mod small;
 mod walk;

@@ -4,7 +4,7 @@ use mathlib.Core.Path.{_≡_, refl, _∙_}
 use mathlib.Core.Logic.{_⊎_, inl, inr}
 use mathlib.Core.Bool.{Bool, true, false, not, _&&_}
 use mathlib.Core.List.{[], map}
-use Prim.Native.Nat.{ℕ, _*_, _≤_, _<_}
+use Prim.Native.Nat.{ℕ, _-_, _*_, _≤_, _<_}
 use native.Mathlib.Omega.{arith}
 use native.Mathlib.Nat.{mul-le-mul}
 use borrow.Author.Tests.{ltb-true}
@@ -17,7 +17,7 @@ use Rattle.base.specs.Laws.Lists.{length-filter-most, map-same, map-upto-at, ma
 use Rattle.job.specs.declared.Platform.{Platform}
 use Rattle.job.specs.Limits.{mostUnit, mostWireCost}
 use Rattle.etf.specs.Bounds.{mostHops, mostCost}
-use Rattle.etf.specs.Topology.{binaryPlace, hypercubeHops, ringHops, hops, cost, square}
+use Rattle.etf.specs.Topology.{binaryPlace, hypercubeHops, difference, ringHops, hops, cost, square}
 
 -- ---- hops and costs
 
@@ -41,6 +41,15 @@ hops-most r p q n =
     pick-most (eqb (r .topology) 0) 1 _ 8 (omega arith)
     (pick-most (eqb (r .topology) 1) (hypercubeHops p q) _ 8 (omega (arith, hypercube-most p q))
     (pick-most (eqb (r .topology) 2) (ringHops (r .processors) p q) 0 8 (ring-most (r .processors) p q n) (omega arith)))
+
+-- nor, among the first sixteen processors, more than fifteen, whatever the platform is
+pub hops-near : (r : Platform) (p q : ℕ) → p < 16 → q < 16 → hops r p q ≤ 15
+unfolding hops ringHops difference
+hops-near r p q h k =
+    pick-most (eqb (r .topology) 0) 1 _ 15 (omega arith)
+    (pick-most (eqb (r .topology) 1) (hypercubeHops p q) _ 15 (omega (arith, hypercube-most p q))
+    (pick-most (eqb (r .topology) 2) (ringHops (r .processors) p q) 0 15
+    (omega (arith, pick-most (ltb p q) (q - p) (p - q) 15 (omega arith) (omega arith))) (omega arith)))
 
 -- no cost passes 800
 pub cost-most : (r : Platform) (w : ℕ → ℕ → ℕ) (p q : ℕ) → r .processors ≤ 16 → r .unit ≤ mostUnit → w p q ≤ mostWireCost

@@ -6,7 +6,7 @@ use Rattle.schedule.specs.declared.Covered.{Covered}
 use Rattle.schedule.specs.declared.Covered.the-variants.{Cover, Refused}
 use Rattle.schedule.specs.Call.{arrivalPlaces, planFor}
 use Rattle.schedule.specs.Cover.{figures, coverCall}
-use Rattle.schedule.specs.Laws.Reading.{read-as, wired, instance-held, plannable}
+use Rattle.schedule.specs.Laws.Reading.{read-as, instance-held, plannable}
 use Rattle.schedule.specs.Laws.Calls.{passes-on, call-short, call-end, laid-holds, measured-right}
 use Rattle.schedule.proofs.cover.Statement.{statement}
 use Rattle.schedule.proofs.cover.Tie as tie
@@ -54,9 +54,7 @@ index-requires : tie.Need-index-requires
 index-requires c κs = search needs
 
 square-requires : tie.Need-square-requires
-square-requires c κs =
-    let v = c .before .before .before .before .before in
-    wired (read-as (v .before .before .read .ensures) (v .verdict .given .1))
+square-requires c κs = search needs
 
 lay-out-requires : tie.Need-lay-out-requires
 lay-out-requires c κs =

@@ -7,7 +7,7 @@ use Rattle.schedule.specs.declared.Planned.{Planned}
 use Rattle.schedule.specs.declared.Planned.the-variants.{Plan, Refused}
 use Rattle.schedule.specs.Call.{arrivalPlaces, planFor}
 use Rattle.schedule.specs.Plan.{outcome, planCall}
-use Rattle.schedule.specs.Laws.Reading.{read-as, wired, instance-held, near-gate, plannable}
+use Rattle.schedule.specs.Laws.Reading.{read-as, instance-held, near-gate, plannable}
 use Rattle.schedule.specs.Laws.Calls.{passes-on, call-short, call-end, laid-holds, laid-last, planned-right}
 use Rattle.schedule.specs.Laws.Delivery.{deliverable, end-found}
 use Rattle.schedule.proofs.plan.Statement.{statement}
@@ -53,9 +53,7 @@ index-requires : tie.Need-index-requires
 index-requires c κs = search needs
 
 square-requires : tie.Need-square-requires
-square-requires c κs =
-    let v = c .before .before .before .before .before in
-    wired (read-as (v .before .before .read .ensures) (v .verdict .given .1))
+square-requires c κs = search needs
 
 lay-out-requires : tie.Need-lay-out-requires
 lay-out-requires c κs =

@@ -6,7 +6,7 @@ use Rattle.etf.specs.OfJob.{instance, resultOf}
 use Rattle.schedule.specs.declared.Planned.the-variants.{Plan, Refused}
 use Rattle.schedule.specs.Plan.{outcome}
 use Rattle.schedule.specs.Small.{smallPlaces, laidSmall, smallCall}
-use Rattle.schedule.specs.Laws.Reading.{read-as, wired, instance-held, near-gate, plannable}
+use Rattle.schedule.specs.Laws.Reading.{read-as, instance-held, near-gate, plannable}
 use Rattle.schedule.specs.Laws.Calls.{passes-on, planned-right}
 use Rattle.schedule.specs.Laws.SmallCalls.{small-holds, call-small-short, call-small-end}
 use Rattle.schedule.specs.Laws.Delivery.{deliverable, end-found}
@@ -49,9 +49,7 @@ index-requires : tie.Need-index-requires
 index-requires c κs = search needs
 
 square-requires : tie.Need-square-requires
-square-requires c κs =
-    let v = c .before .before .before in
-    wired (read-as (v .before .before .read-into .ensures) (v .verdict .given .1))
+square-requires c κs = search needs
 
 slice-aggregate-lay-small : tie.Need-slice-aggregate-lay-small
 slice-aggregate-lay-small c =

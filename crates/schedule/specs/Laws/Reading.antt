@@ -21,8 +21,8 @@ use Rattle.etf.specs.OfJob.{costIn, costsOf, instance, resultOf}
 use Rattle.etf.specs.Bounds.{mostCost, mostMessageTime}
 use Rattle.etf.specs.Laws.Costs.{square-same, cost-same, row-length}
 use Rattle.etf.specs.Laws.OfJob.{entry-most}
+use Rattle.costs.specs.Wires.{loaded}
 use Rattle.schedule.specs.InArrays.{InArrays, byNumber, instanceIn, Ordering, Plannable}
-use Rattle.schedule.specs.Pass.{Wired, loaded}
 
 -- an accepted file: the job, held in the arrays of its reading x
 pub record Read (file : List ℕ) (x : Reading) (m l : ℕ) : Type 0 where
@@ -80,15 +80,6 @@ module _ {file : List ℕ} {x : Reading} {m l : ℕ} (K : Read file x m l) where
 
   held-sound : Accepted J
   held-sound = subst Accepted (sym (K .held)) (K .sound)
-
-  -- what the costs are made from
-  pub wired : Wired (x .platform)
-  unfolding heldJob
-  wired = record {
-    few-processors = held-sound .few-processors;
-    known-topology = held-sound .known-topology;
-    small-unit = held-sound .small-unit;
-  }
 
   -- ---- the tasks and edges of the job, by place in the arrays
 

@@ -1,8 +1,8 @@
 -- `hypercube::hops`: the entry read is the table's, which follows the rule.
 use borrow.Author.Needs.{needs}
-use Rattle.schedule.proofs.HypercubeTable.{table, entry}
-use Rattle.schedule.proofs.hypercube.hops.Statement.{statement}
-use Rattle.schedule.proofs.hypercube.hops.Tie as tie
+use Rattle.costs.proofs.HypercubeTable.{table, entry}
+use Rattle.costs.proofs.hypercube.hops.Statement.{statement}
+use Rattle.costs.proofs.hypercube.hops.Tie as tie
 
 mul-result : tie.Need-mul-result
 mul-result c = search needs

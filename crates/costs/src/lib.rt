@@ -1,14 +1,16 @@
-// Link costs (document 01, "Link costs"; document 02, §1).
-use crate::hypercube;
+// Link costs (document 01, "Link costs"; document 02, §1): what one message takes from each processor to each other one, as a square.
+// The call asks nothing of its caller: of more processors than sixteen the first sixteen have a place in the square.
+mod hypercube;
+
 use job::Platform;
 ghost use mathlib.Core.Path.{_≡_};
 ghost use Prim.Native.Nat.{_≤_, _<_};
 ghost use Rattle.etf.specs.Topology.{ringHops, hops as hopsOf, cost as costOf, square as squareOf};
-ghost use Rattle.schedule.specs.Pass.{Wired, loaded};
+ghost use Rattle.costs.specs.Wires.{loaded};
 
 // 01: "the smaller of the difference d of p and q, and n - d".
 fn ring_hops(n: usize, p: usize, q: usize) -> u32
-    requires { ⌜ (n ≤ 16) × (p < n) × (q < n) ⌝ }
+    requires { ⌜ (n ≤ 255) × (p < n) × (q < n) ⌝ }
     ensures { λ r. ⌜ r ≡ ringHops n p q ⌝ }
 {
     let d = if p < q { q - p } else { p - q };
@@ -18,9 +20,9 @@ fn ring_hops(n: usize, p: usize, q: usize) -> u32
     (n - d) as u32
 }
 
-// The hops between two different processors, by topology: 0 complete, 1 hypercube, 2 ring.
+// The hops between two different processors, by topology: 0 complete, 1 hypercube, 2 ring; 0 for any other.
 fn hops(platform: Platform, p: usize, q: usize) -> u32
-    requires { ⌜ Wired platform × (p < platform .processors) × (q < platform .processors) × (platform .topology ≤ 2) ⌝ }
+    requires { ⌜ (p < platform .processors) × (q < platform .processors) × (p < 16) × (q < 16) ⌝ }
     ensures { λ r. ⌜ r ≡ hopsOf platform p q ⌝ }
 {
     let topology = platform.topology;
@@ -30,18 +32,21 @@ fn hops(platform: Platform, p: usize, q: usize) -> u32
     if topology == 1 {
         return base::wide8(hypercube::hops(p, q));
     }
-    ring_hops(base::index(platform.processors), p, q)
+    if topology == 2 {
+        return ring_hops(base::index(platform.processors), p, q);
+    }
+    0
 }
 
 // What one message takes from processor p to processor q: under topology 3 what the wire from p to q has.
 fn cost(platform: Platform, wires: &[u8; 256], p: usize, q: usize) -> u32
-    requires { ⌜ Wired platform × (p < platform .processors) × (q < platform .processors) ⌝ }
+    requires { ⌜ (p < platform .processors) × (q < platform .processors) × (p < 16) × (q < 16) ⌝ }
     ensures { λ r. ⌜ r ≡ costOf platform (loaded (now (wires .entry))) p q ⌝ }
 {
     if p == q {
         return 0;
     }
-    if 2 < platform.topology {
+    if platform.topology == 3 {
         return base::wide8(wires[16 * p + q]);
     }
     base::wide8(platform.unit) * hops(platform, p, q)
@@ -49,10 +54,9 @@ fn cost(platform: Platform, wires: &[u8; 256], p: usize, q: usize) -> u32
 
 // The costs as a square of sixteen rows of sixteen, 0 where a processor is absent.
 pub fn square(platform: Platform, wires: &[u8; 256]) -> [[u32; 16]; 16]
-    requires { ⌜ Wired platform ⌝ }
     ensures { λ r. ⌜ r ≡ squareOf (platform .processors) (costOf platform (loaded (now (wires .entry)))) ⌝ }
 {
-    let n = base::index(platform.processors);
+    let n = base::least(base::index(platform.processors), 16);
     let mut costs = [[0u32; 16]; 16];
     let mut p: usize = 0;
     while p < n {

@@ -1,8 +1,8 @@
--- `costs::square`: each entry is the square's, or its place, counted row by row, is still to come.
+-- `square`: each entry is the square's, or its place, counted row by row, is still to come.
 use mathlib.Core.Path.{_≡_, refl, ap, sym, _∙_}
 use mathlib.Core.Logic.{_⊎_, inl, inr}
 use mathlib.Core.List.{List, [], _∷_}
-use Prim.Native.Nat.{ℕ, zero, suc, _+_, _*_, _-_, _≤_, _<_}
+use Prim.Native.Nat.{ℕ, zero, suc, _+_, _*_, _-_, _≤_, _<_, min}
 use native.Mathlib.Nat.{add-zero}
 use native.Mathlib.Omega.{arith}
 use borrow.Author.Needs.{needs}
@@ -11,10 +11,10 @@ use lib.ListN.{length, getD, set, replicate, length-set, getD-replicate}
 use lib.Seq.{getD-set-same, getD-set-other, ext-getD}
 use Rattle.base.specs.Laws.Tests.{lt-or-ge}
 use Rattle.etf.specs.Topology.{entry, square, cost}
-use Rattle.etf.specs.Laws.Costs.{square-length, row-length, square-at, square-cost}
-use Rattle.schedule.specs.Pass.{loaded}
-use Rattle.schedule.proofs.costs.square.Statement.{statement}
-use Rattle.schedule.proofs.costs.square.Tie as tie
+use Rattle.etf.specs.Laws.Costs.{square-length, row-length, square-at}
+use Rattle.costs.specs.Wires.{loaded}
+use Rattle.costs.proofs.square.Statement.{statement}
+use Rattle.costs.proofs.square.Tie as tie
 
 -- ---- rows of rows: one store
 
@@ -72,9 +72,9 @@ module _ (n : ℕ) (c : ℕ → ℕ → ℕ) where
       at i j h k (inl p) (inr q) = inl (none i j h k ∙ sym (square-at n c i j h k ∙ rw (lt-ltb i n p, le-ltb j n q)))
       at i j h k (inr p) q = inl (none i j h k ∙ sym (square-at n c i j h k ∙ rw (le-ltb i n p)))
 
-  more : (a : List (List ℕ)) (p q x : ℕ) → Held (16 * p + q) a → n ≤ 16 → p < n → q < n → x ≡ c p q
+  more : (a : List (List ℕ)) (p q x : ℕ) → Held (16 * p + q) a → p < 16 → q < 16 → p < n → q < n → x ≡ c p q
       → Held (16 * p + (q + 1)) (stored a p q x)
-  more a p q x s m hp hq e = record {
+  more a p q x s m o hp hq e = record {
     rows = length-set a p (set (getD a p []) q x) ∙ s .rows;
     columns = λ i h. row-kept a p q x i ∙ s .columns i h;
     entries = λ i j h k. at i j h k (lt-or-ge (16 * i + j) (16 * p + q)) (lt-or-ge (16 * p + q) (16 * i + j)) (s .entries i j h k);
@@ -82,8 +82,8 @@ module _ (n : ℕ) (c : ℕ → ℕ → ℕ) where
     where
       here : entry (stored a p q x) p q ≡ entry (square n c) p q
       here =
-          entry-stored a p q x (omega (arith, s .rows)) (omega (arith, s .columns p (omega arith)))
-          ∙ e ∙ sym (square-cost n c p q m hp hq)
+          entry-stored a p q x (omega (arith, s .rows)) (omega (arith, s .columns p m))
+          ∙ e ∙ sym (square-at n c p q m o ∙ rw (lt-ltb p n hp, lt-ltb q n hq))
 
       at : (i j : ℕ) → i < 16 → j < 16 → (16 * i + j < 16 * p + q) ⊎ (16 * p + q ≤ 16 * i + j)
           → (16 * p + q < 16 * i + j) ⊎ (16 * i + j ≤ 16 * p + q)
@@ -98,24 +98,24 @@ module _ (n : ℕ) (c : ℕ → ℕ → ℕ) where
           inl (rw (f, g) here)
 
   -- past the row's last processor no place of the row is to come
-  row-done : (a : List (List ℕ)) (p q : ℕ) → Held (16 * p + q) a → n ≤ q → Held (16 * (p + 1)) a
-  row-done a p q s g = record { rows = s .rows; columns = s .columns; entries = λ i j h k. at i j (s .entries i j h k) }
+  row-done : (a : List (List ℕ)) (p q : ℕ) → Held (16 * p + q) a → min n 16 ≤ q → Held (16 * (p + 1)) a
+  row-done a p q s g = record { rows = s .rows; columns = s .columns; entries = λ i j h k. at i j k (s .entries i j h k) }
     where
-      at : (i j : ℕ) → Right (16 * p + q) a i j → Right (16 * (p + 1)) a i j
-      at i j (inl w) = inl w
-      at i j (inr w) = inr (w .0, w .1, omega arith)
+      at : (i j : ℕ) → j < 16 → Right (16 * p + q) a i j → Right (16 * (p + 1)) a i j
+      at i j k (inl w) = inl w
+      at i j k (inr w) = inr (w .0, w .1, omega arith)
 
   -- past the last row no place is to come
-  done : (a : List (List ℕ)) (p : ℕ) → Held (16 * p) a → n ≤ p → a ≡ square n c
+  done : (a : List (List ℕ)) (p : ℕ) → Held (16 * p) a → min n 16 ≤ p → a ≡ square n c
   done a p s g =
       ext-getD [] a (square n c) (s .rows ∙ sym (square-length n c))
       (λ i u. let h : i < 16 = omega (arith, s .rows) in
       ext-getD 0 (getD a i []) (getD (square n c) i []) (s .columns i h ∙ sym (row-length n c i h))
-      (λ j v. let k : j < 16 = omega (arith, s .columns i h) in at i j k (s .entries i j h k)))
+      (λ j v. let k : j < 16 = omega (arith, s .columns i h) in at i j h k (s .entries i j h k)))
     where
-      at : (i j : ℕ) → j < 16 → Right (16 * p) a i j → entry a i j ≡ entry (square n c) i j
-      at i j k (inl w) = w
-      at i j k (inr w) = absurd (omega arith)
+      at : (i j : ℕ) → i < 16 → j < 16 → Right (16 * p) a i j → entry a i j ≡ entry (square n c) i j
+      at i j h k (inl w) = w
+      at i j h k (inr w) = absurd (omega arith)
 
 -- ---- the loops
 
@@ -134,6 +134,9 @@ abbrev μ-loop : tie.MeasureT-loop
 
 index-requires : tie.Need-index-requires Inv-loop2 μ-loop2 Inv-loop μ-loop
 index-requires c κs = search needs
+
+least-requires : tie.Need-least-requires Inv-loop2 μ-loop2 Inv-loop μ-loop
+least-requires c κs = search needs
 
 loop-holds : tie.Need-loop-holds Inv-loop2 μ-loop2 Inv-loop μ-loop
 unfolding zeros
@@ -166,7 +169,8 @@ loop2-less c = search needs
 loop2-again : tie.Need-loop2-again Inv-loop2 μ-loop2 Inv-loop μ-loop
 loop2-again c = (
   search needs,
-  more _ _ _ _ _ _ (c .before .before .loop2 .inv .1) (search needs) (search needs) (search needs) (c .cost .ensures),
+  more _ _ _ _ _ _ (c .before .before .loop2 .inv .1) (search needs) (search needs) (search needs) (search needs)
+      (c .cost .ensures),
 )
 
 add-p : tie.Need-add-p Inv-loop2 μ-loop2 Inv-loop μ-loop
@@ -190,6 +194,7 @@ square-spec =
     Inv-loop
     μ-loop
     index-requires
+    least-requires
     loop-holds
     loop2-holds
     cost-requires

@@ -8,7 +8,7 @@ use lib.Dec.{eqb, eqb→eq}
 use lib.ListN.{getD}
 use Rattle.base.specs.Lists.{upto, filter}
 use Rattle.etf.specs.Topology.{hypercubeHops}
-use Rattle.schedule.proofs.Table.{at}
+use Rattle.costs.proofs.Table.{at}
 
 -- the table of src/hypercube.rt
 unfoldable pub table : List ℕ

@@ -1,4 +1,4 @@
--- `costs::ring_hops`: d is the difference of p and q, which is below n, so that both ways round the ring are counted.
+-- `ring_hops`: d is the difference of p and q, which is below n, so that both ways round the ring are counted.
 use mathlib.Core.Path.{_≡_}
 use mathlib.Core.Logic.{⊎-elim}
 use Prim.Native.Nat.{ℕ, _-_, _≤_, _<_}
@@ -6,8 +6,8 @@ use native.Mathlib.Omega.{arith}
 use borrow.Author.Needs.{needs}
 use borrow.Author.Tests.{lt-ltb, le-ltb}
 use Rattle.etf.specs.Topology.{difference, ringHops}
-use Rattle.schedule.proofs.costs.ring_hops.Statement.{statement}
-use Rattle.schedule.proofs.costs.ring_hops.Tie as tie
+use Rattle.costs.proofs.ring_hops.Statement.{statement}
+use Rattle.costs.proofs.ring_hops.Tie as tie
 
 module _ (n p q d : ℕ) where
   above : p < q → d ≡ q - p → q < n → (d ≡ difference p q) × (d < n)

@@ -1,4 +1,4 @@
--- `costs::cost`: the wire's cost under topology 3, else the unit cost times the hops; no cost passes 32 bits.
+-- `cost`: the wire's cost under topology 3, else the unit cost times the hops, a byte times fifteen at most.
 use mathlib.Core.Path.{_≡_}
 use mathlib.Core.List.{List}
 use Prim.Native.Nat.{ℕ, _+_, _*_, _≤_, _<_}
@@ -9,11 +9,10 @@ use borrow.Author.Tests.{eq-eqb, ne-eqb}
 use lib.ListN.{getD}
 use Rattle.job.specs.declared.Platform.{Platform}
 use Rattle.etf.specs.Topology.{hops, cost}
-use Rattle.etf.specs.Bounds.{mostCost}
-use Rattle.etf.specs.Laws.Costs.{hops-most}
-use Rattle.schedule.specs.Pass.{Wired, loaded}
-use Rattle.schedule.proofs.costs.cost.Statement.{statement}
-use Rattle.schedule.proofs.costs.cost.Tie as tie
+use Rattle.etf.specs.Laws.Costs.{hops-near}
+use Rattle.costs.specs.Wires.{loaded}
+use Rattle.costs.proofs.cost.Statement.{statement}
+use Rattle.costs.proofs.cost.Tie as tie
 
 module _ (r : Platform) (wires : List ℕ) (p q : ℕ) where
   itself : p ≡ q → 0 ≡ cost r (loaded wires) p q
@@ -22,19 +21,20 @@ module _ (r : Platform) (wires : List ℕ) (p q : ℕ) where
 
   module _ (a : p ≡ q → ⊥) where
     -- the entry at the place of the pair
-    by-wire : 2 < r .topology → r .topology ≤ 3 → (x k : ℕ) → x ≡ getD wires k 0 → k ≡ 16 * p + q → x ≡ cost r (loaded wires) p q
+    by-wire : r .topology ≡ 3 → (x k : ℕ) → x ≡ getD wires k 0 → k ≡ 16 * p + q → x ≡ cost r (loaded wires) p q
     unfolding cost loaded
-    by-wire h h′ x k e i =
-        let t : r .topology ≡ 3 = omega arith in
-        simp (ne-eqb _ _ a, eq-eqb _ _ t) (rw i at e)
+    by-wire t x k e i = simp (ne-eqb _ _ a, eq-eqb _ _ t) (rw i at e)
 
     module _ (u h : ℕ) (eu : u ≡ r .unit) (eh : h ≡ hops r p q) where
-      by-hops : r .topology ≤ 2 → u * h ≡ cost r (loaded wires) p q
+      by-hops : (r .topology ≡ 3 → ⊥) → u * h ≡ cost r (loaded wires) p q
       unfolding cost
-      by-hops t = simp (ne-eqb _ _ a, ne-eqb (r .topology) 3 (λ e. omega arith), eu, eh)
+      by-hops t = simp (ne-eqb _ _ a, ne-eqb _ _ t, eu, eh)
 
-small : (r : Platform) (p q u h : ℕ) → u ≡ r .unit → h ≡ hops r p q → Wired r → u * h ≤ mostCost
-small r p q u h eu eh w = rw (eu, eh) (omega (arith, mul-le-mul (w .small-unit) (hops-most r p q (w .few-processors))))
+small : (r : Platform) (p q u h : ℕ) → u < 256 → h ≡ hops r p q → p < 16 → q < 16 → u * h ≤ 255 * 15
+small r p q u h b e i k =
+    let byte : u ≤ 255 = omega arith in
+    let near : h ≤ 15 = omega (arith, e, hops-near r p q i k) in
+    mul-le-mul byte near
 
 returns : tie.Need-returns
 returns c = itself _ _ _ _ (c .if1 .taken)
@@ -55,9 +55,7 @@ returns-2 : tie.Need-returns-2
 returns-2 c =
     let at-if2 = c .before .before in
     let at-if1 = at-if2 .before .before in
-    let at-start = at-if1 .before in
-    by-wire _ _ _ _ (at-if1 .if1 .left) (omega (arith, at-if2 .if2 .taken)) (at-start .pre .0 .known-topology) _ _ (c .wide8 .ensures .0)
-    (omega arith)
+    by-wire _ _ _ _ (at-if1 .if1 .left) (at-if2 .if2 .taken) _ _ (c .wide8 .ensures .0) (omega arith)
 
 wide8-requires-2 : tie.Need-wide8-requires-2
 wide8-requires-2 c κs = search needs
@@ -68,15 +66,15 @@ hops-requires c κs = search needs
 mul-result : tie.Need-mul-result
 mul-result c =
     let at-wide8 = c .before in
-    let at-if1 = at-wide8 .before .before .before in
-    search (needs, small _ _ _ _ _ (at-wide8 .wide82 .ensures .0) (c .hops .ensures) (at-if1 .before .pre .0))
+    let at-start = at-wide8 .before .before .before .before in
+    search (needs, small _ _ _ _ _ (at-wide8 .wide82 .ensures .1) (c .hops .ensures) (at-start .pre .2) (at-start .pre .3))
 
 returns-3 : tie.Need-returns-3
 returns-3 c =
     let at-wide8 = c .before in
     let at-if2 = at-wide8 .before in
     let at-if1 = at-if2 .before .before in
-    by-hops _ _ _ _ (at-if1 .if1 .left) _ _ (at-wide8 .wide82 .ensures .0) (c .hops .ensures) (omega (arith, at-if2 .if2 .left))
+    by-hops _ _ _ _ (at-if1 .if1 .left) _ _ (at-wide8 .wide82 .ensures .0) (c .hops .ensures) (at-if2 .if2 .left)
 
 pub cost-spec : {M : Type 1} → statement M
 cost-spec =

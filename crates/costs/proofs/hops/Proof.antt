@@ -1,18 +1,12 @@
--- `costs::hops`: the platform's topology is 0, 1 or 2, and each has its rule.
-use mathlib.Core.Path.{_≡_, refl, ap, _∙_}
-use Prim.Native.Nat.{ℕ, zero, suc, _≤_}
-use native.Mathlib.Omega.{arith}
+-- `hops`: each topology has its rule.
+use mathlib.Core.Path.{_≡_, ap, _∙_}
+use Prim.Native.Nat.{ℕ}
 use borrow.Author.Needs.{needs}
 use borrow.Author.Tests.{eq-eqb, ne-eqb}
 use Rattle.job.specs.declared.Platform.{Platform}
 use Rattle.etf.specs.Topology.{hypercubeHops, ringHops, hops}
-use Rattle.schedule.proofs.costs.hops.Statement.{statement}
-use Rattle.schedule.proofs.costs.hops.Tie as tie
-
-two : (t : ℕ) → t ≤ 2 → (t ≡ 0 → ⊥) → (t ≡ 1 → ⊥) → t ≡ 2
-two zero h a b = absurd (a refl)
-two (suc zero) h a b = absurd (b refl)
-two (suc (suc t)) h a b = omega arith
+use Rattle.costs.proofs.hops.Statement.{statement}
+use Rattle.costs.proofs.hops.Tie as tie
 
 module _ (r : Platform) (p q : ℕ) where
   complete : r .topology ≡ 0 → 1 ≡ hops r p q
@@ -23,9 +17,14 @@ module _ (r : Platform) (p q : ℕ) where
   unfolding hops
   hypercube a e = simp (ne-eqb _ _ a, eq-eqb _ _ e)
 
-  ring : (r .topology ≡ 0 → ⊥) → (r .topology ≡ 1 → ⊥) → r .topology ≤ 2 → ringHops (r .processors) p q ≡ hops r p q
-  unfolding hops
-  ring a b h = simp (ne-eqb _ _ a, ne-eqb _ _ b, eq-eqb _ _ (two _ h a b))
+  module _ (a : r .topology ≡ 0 → ⊥) (b : r .topology ≡ 1 → ⊥) where
+    ring : r .topology ≡ 2 → ringHops (r .processors) p q ≡ hops r p q
+    unfolding hops
+    ring e = simp (ne-eqb _ _ a, ne-eqb _ _ b, eq-eqb _ _ e)
+
+    none : (r .topology ≡ 2 → ⊥) → 0 ≡ hops r p q
+    unfolding hops
+    none e = simp (ne-eqb _ _ a, ne-eqb _ _ b, ne-eqb _ _ e)
 
 returns : tie.Need-returns
 returns c = complete _ _ _ (c .if1 .taken)
@@ -51,12 +50,15 @@ ring-hops-requires c κs = search needs
 returns-3 : tie.Need-returns-3
 returns-3 c =
     let at-index = c .before in
-    let at-if2 = at-index .before in
+    let at-if3 = at-index .before in
+    let at-if2 = at-if3 .before in
     let at-if1 = at-if2 .before in
-    let at-start = at-if1 .before in
-    let args = at-start .args in
+    let args = at-if1 .before .args in
     c .ring-hops .ensures ∙ ap (λ n. ringHops n (args .p) (args .q)) (at-index .index .ensures .0)
-    ∙ ring _ _ _ (at-if1 .if1 .left) (at-if2 .if2 .left) (at-start .pre .3)
+    ∙ ring _ _ _ (at-if1 .if1 .left) (at-if2 .if2 .left) (at-if3 .if3 .taken)
+
+returns-4 : tie.Need-returns-4
+returns-4 c = none _ _ _ (c .before .before .if1 .left) (c .before .if2 .left) (c .if3 .left)
 
 pub hops-spec : {M : Type 1} → statement M
 hops-spec =
@@ -68,4 +70,5 @@ hops-spec =
     returns-2
     index-requires
     ring-hops-requires
-    returns-3)
+    returns-3
+    returns-4)
