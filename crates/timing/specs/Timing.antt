@@ -15,6 +15,8 @@ use Rattle.job.specs.Limits.{mostProcessors, mostTasks, mostEdges}
 use Rattle.job.specs.Job.{Job}
 use Rattle.job.specs.Read.{Answer, accepted, refused, readJob, verdictNumber}
 use Rattle.job.specs.Write.{heldJob, writeAnswer, writeOut}
+use Rattle.etf.specs.Topology.{entry, cost, square}
+use Rattle.costs.specs.Wires.{loaded}
 use Rattle.schedule.specs.declared.Covered.{Covered}
 use Rattle.schedule.specs.declared.Covered.the-variants.{Cover, Refused as NotCovered}
 use Rattle.schedule.specs.declared.Planned.{Planned}
@@ -79,6 +81,11 @@ copyOut (NotRead k) r out = out
 pub record Copied (number : ℕ) (after : List ℕ) (r : Reading) (before : List ℕ) : Type 0 where
   pub answer : number ≡ writtenNumber (copyAnswer (r .verdict) r before)
   pub output : after ≡ copyOut (r .verdict) r before
+
+-- the entry at row p and column q of the square of a platform and its wires; 0 where there is none
+unfoldable pub squareTimed : ℕ → ℕ → ℕ → List ℕ → ℕ → ℕ → ℕ
+squareTimed processors topology unit wires p q =
+    entry (square processors (cost (record { processors = processors; topology = topology; unit = unit }) (loaded wires))) p q
 
 -- the number of a refused cover call; 0 for an accepted one
 abbrev pub refusalIn : Covered → ℕ

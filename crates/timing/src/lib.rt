@@ -1,6 +1,7 @@
-// The job reader and writer, the cover call and the page as functions that the benchmark (bench/) and the differential
+// The job reader and writer, the square of costs, the cover call and the page as functions that the benchmark (bench/) and the differential
 // (tests/differential) call from C.
 use gantt::Drawn;
+use job::Platform;
 use job::Verdict;
 use job::Written;
 use schedule::Covered;
@@ -11,7 +12,7 @@ ghost use lib.ListN.{getD};
 ghost use Rattle.job.specs.Read.{readJob, readingOf};
 ghost use Rattle.schedule.specs.Call.{called};
 ghost use Rattle.timing.specs.Timing.{writtenNumber, numberAt, Copied, refusalIn, coverReturned, coverTimed};
-ghost use Rattle.timing.specs.Timing.{drawnNumber, drawReturned, drawTimed, plannedNumber, smallTimed};
+ghost use Rattle.timing.specs.Timing.{squareTimed, drawnNumber, drawReturned, drawTimed, plannedNumber, smallTimed};
 
 // 0 for a job that was written, or the refusal's number.
 fn written_number(written: Written) -> u32
@@ -103,6 +104,34 @@ pub extern "C" fn timing_copy(file: &[u8], out: &mut [u8]) -> u32
     };
     let written = job::write(r.platform, tasks, edges, r.arrays, out);
     written_number(written)
+}
+
+// Makes the square of costs, and returns the entry at row p and column q, 0 where there is none: which one is not known before, so that
+// every store is due.
+#[no_mangle]
+pub extern "C" fn timing_square(
+    processors: u8,
+    topology: u8,
+    unit: u8,
+    wires: &[u8; 256],
+    p: usize,
+    q: usize,
+) -> u32
+    ensures { λ r. ⌜ r ≡ squareTimed processors topology unit (now (wires .entry)) p q ⌝ }
+{
+    let platform = Platform {
+        processors,
+        topology,
+        unit,
+    };
+    let costs = costs::square(platform, wires);
+    if 16 <= p {
+        return 0;
+    }
+    if 16 <= q {
+        return 0;
+    }
+    costs[p][q]
 }
 
 // The number of a refused cover call.
