@@ -1,12 +1,18 @@
-// Link costs (document 01, "Link costs"; document 02, §1): what one message takes from each processor to each other one, as a square.
+// Link costs (document 01, "Link costs"; document 02, §1 and §5): what one message takes from each processor to each other one, as a square.
 // The call asks nothing of its caller: of more processors than sixteen the first sixteen have a place in the square.
-mod hypercube;
-
 use job::Platform;
 ghost use mathlib.Core.Path.{_≡_};
 ghost use Prim.Native.Nat.{_≤_, _<_};
-ghost use Rattle.etf.specs.Topology.{ringHops, hops as hopsOf, cost as costOf, square as squareOf};
+ghost use Rattle.etf.specs.Topology.{hypercubeHops, ringHops, hops as hopsOf, cost as costOf, square as squareOf};
 ghost use Rattle.costs.specs.Wires.{loaded};
+
+// 01: "the number of binary places in which p and q differ"; 02 §5: "boards are as far apart as their numbers have differing bits".
+fn hypercube_hops(p: usize, q: usize) -> u32
+    requires { ⌜ (p < 16) × (q < 16) ⌝ }
+    ensures { λ r. ⌜ r ≡ hypercubeHops p q ⌝ }
+{
+    usize::count_ones(p ^ q)
+}
 
 // 01: "the smaller of the difference d of p and q, and n - d".
 fn ring_hops(n: usize, p: usize, q: usize) -> u32
@@ -30,7 +36,7 @@ fn hops(platform: Platform, p: usize, q: usize) -> u32
         return 1;
     }
     if topology == 1 {
-        return base::wide8(hypercube::hops(p, q));
+        return hypercube_hops(p, q);
     }
     if topology == 2 {
         return ring_hops(base::index(platform.processors), p, q);

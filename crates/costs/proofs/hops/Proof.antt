@@ -29,17 +29,13 @@ module _ (r : Platform) (p q : ℕ) where
 returns : tie.Need-returns
 returns c = complete _ _ _ (c .if1 .taken)
 
-hops-requires : tie.Need-hops-requires
-hops-requires c κs = search needs
-
-wide8-requires : tie.Need-wide8-requires
-wide8-requires c κs = search needs
+hypercube-hops-requires : tie.Need-hypercube-hops-requires
+hypercube-hops-requires c κs = search needs
 
 returns-2 : tie.Need-returns-2
 returns-2 c =
-    let at-hops = c .before in
-    let at-if2 = at-hops .before in
-    c .wide8 .ensures .0 ∙ at-hops .hops .ensures ∙ hypercube _ _ _ (at-if2 .before .if1 .left) (at-if2 .if2 .taken)
+    let at-if2 = c .before in
+    c .hypercube-hops .ensures ∙ hypercube _ _ _ (at-if2 .before .if1 .left) (at-if2 .if2 .taken)
 
 index-requires : tie.Need-index-requires
 index-requires c κs = search needs
@@ -65,8 +61,7 @@ hops-spec =
     tie.close
     (tie.spec
     returns
-    hops-requires
-    wide8-requires
+    hypercube-hops-requires
     returns-2
     index-requires
     ring-hops-requires
