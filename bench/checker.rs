@@ -45,7 +45,7 @@ impl Plan {
     }
 
     fn early(&self, job: &Reading, edges: usize) -> bool {
-        let costs = square(job);
+        let costs = square(job.platform, &job.wires);
         let edges = job.from[..edges].iter().zip(&job.to).zip(&job.counts);
         edges.into_iter().any(|((&from, &to), &count)| {
             let (s, t) = (usize::from(from), usize::from(to));

@@ -1,7 +1,7 @@
-//! Times the job reader and writer, the planner, the small planner, the checker, the cover call and the page against plain Rust ones,
-//! in one run, and prints the ratios; then the cover call and the small planner against our planner. First it holds each against the
-//! other on the files of the cases of crate `vectors`, whose folder is the first argument, and more. Last it prints how much stack
-//! planner, small planner, checker, cover call and page take.
+//! Times the job reader and writer, the square of costs, the planner, the small planner, the checker, the cover call and the page
+//! against plain Rust ones, in one run, and prints the ratios; then the cover call and the small planner against our planner. First it
+//! holds each against the other on the files of the cases of crate `vectors`, whose folder is the first argument, and more; the squares
+//! on all platforms. Last it prints how much stack planner, small planner, checker, cover call and page take.
 mod cases;
 mod checker;
 mod cover;
@@ -17,6 +17,7 @@ mod proved;
 mod reader;
 mod small;
 mod smalls;
+mod squares;
 mod stack;
 mod tally;
 mod timing;
@@ -30,6 +31,7 @@ fn main() {
     let families = families::families();
     cases::hold(&cases, &lines);
     reader::hold(&files);
+    squares::hold();
     let jobs = plans::jobs(&files, &families);
     plans::hold(&jobs);
     smalls::hold(&jobs);
@@ -38,6 +40,7 @@ fn main() {
 
     timing::head("ours", "Rust");
     reader::time();
+    squares::time();
     plans::time(&families);
     smalls::time(&families);
     covers::time(&families);

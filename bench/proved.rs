@@ -1,5 +1,6 @@
 //! The proved functions of crates `timing` and `kelvrist`, as C calls them: a slice is a pointer and a length. Each is there four
 //! times, at the four starts in a line of the cache (`bench/place`); `begin` says which is called.
+use crate::job::Platform;
 use std::sync::atomic::{AtomicUsize, Ordering::Relaxed};
 
 pub const STARTS: usize = 4;
@@ -26,6 +27,8 @@ macro_rules! placed {
 
 placed!(READ(*const u8, usize, usize): timing_read_at_0, timing_read_at_16, timing_read_at_32, timing_read_at_48);
 placed!(COPY(*const u8, usize, *mut u8, usize): timing_copy_at_0, timing_copy_at_16, timing_copy_at_32, timing_copy_at_48);
+placed!(SQUARE(u8, u8, u8, *const u8, usize, usize):
+    timing_square_at_0, timing_square_at_16, timing_square_at_32, timing_square_at_48);
 placed!(PLAN(*const u8, usize, *mut u8, usize): kelvrist_plan_at_0, kelvrist_plan_at_16, kelvrist_plan_at_32, kelvrist_plan_at_48);
 placed!(PLAN_SMALL(*const u8, usize, *mut u8, usize):
     kelvrist_plan_small_at_0, kelvrist_plan_small_at_16, kelvrist_plan_small_at_32, kelvrist_plan_small_at_48);
@@ -52,6 +55,16 @@ pub fn read(file: &[u8], place: usize) -> u32 {
 /// Reads a job and writes it to `out`.
 pub fn copy(file: &[u8], out: &mut [u8]) -> u32 {
     unsafe { there(&COPY)(file.as_ptr(), file.len(), out.as_mut_ptr(), out.len()) }
+}
+
+/// Makes the square of costs, and gives the entry at row p and column q.
+pub fn square(platform: Platform, wires: &[u8; 256], p: usize, q: usize) -> u32 {
+    let Platform {
+        processors,
+        topology,
+        unit,
+    } = platform;
+    unsafe { there(&SQUARE)(processors, topology, unit, wires.as_ptr(), p, q) }
 }
 
 pub fn plan(job: &[u8], plan: &mut [u8]) -> u32 {

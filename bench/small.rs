@@ -46,7 +46,7 @@ impl<'a> Planner<'a> {
             tasks,
             edges,
             n: usize::from(job.platform.processors),
-            costs: planner::square(job),
+            costs: planner::square(job.platform, &job.wires),
             runs: [0; 257],
             first: [edges as u16; 256],
             next: [0; 1024],
