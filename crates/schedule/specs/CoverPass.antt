@@ -10,8 +10,9 @@ use Rattle.base.specs.Choice.{pick}
 use Rattle.base.specs.Rows.{most}
 use Rattle.etf.specs.Instance.{Instance}
 use Rattle.etf.specs.Topology.{entry}
-use Rattle.etf.specs.Bounds.{mostMessageTime, mostFinish}
+use Rattle.etf.specs.Bounds.{mostFinish}
 use Rattle.schedule.specs.Call.{startOf, processorOf}
+use Rattle.schedule.specs.Pass.{messageAt, reachAt}
 
 -- r is the first of the n places whose value is the greatest; `none` where each is 0
 pub record FirstMost (none n : ℕ) (f : ℕ → ℕ) (r : ℕ) : Type 0 where
@@ -70,26 +71,10 @@ module _ (m : ℕ) (durations starts processors : List ℕ) where
 
 -- ---- the moves back
 
--- the task that edge k comes from has its places in the arrays, and no time on the way passes 32 bits
-pub record Sender (durations from counts : List ℕ) (costs : List (List ℕ)) (starts processors : List ℕ) (k : ℕ) : Type 0 where
-  pub has-start : getD from k 0 < length starts
-  pub has-duration : getD from k 0 < length durations
-  pub has-processor : getD from k 0 < length processors
-  pub on-processor : getD processors (getD from k 0) 0 < 16
-  pub in-time : getD starts (getD from k 0) 0 + getD durations (getD from k 0) 0 ≤ mostFinish
-  pub near : (P : ℕ) → getD counts k 0 * entry costs (getD processors (getD from k 0) 0) P ≤ mostMessageTime
-
 module _ (durations from to counts : List ℕ) (costs : List (List ℕ)) (starts processors : List ℕ) where
-  -- the time of edge k's messages to processor P, and when they are there
-  unfoldable pub messageAt : ℕ → ℕ → ℕ
-  messageAt P k = getD counts k 0 * entry costs (getD processors (getD from k 0) 0) P
-
-  unfoldable pub reachAt : ℕ → ℕ → ℕ
-  reachAt P k = getD starts (getD from k 0) 0 + getD durations (getD from k 0) 0 + messageAt P k
-
-  -- that of an edge to task T; of another 0
+  -- when the messages of an edge to task T are at processor P; of another edge 0
   unfoldable pub reachInto : ℕ → ℕ → ℕ → ℕ
-  reachInto T P k = pick (eqb (getD to k 0) T) (reachAt P k) 0
+  reachInto T P k = pick (eqb (getD to k 0) T) (reachAt durations from counts costs starts processors P k) 0
 
   -- the walk goes back from task T to `back`, along the first of those of the first l edges whose messages are at P the latest;
   -- `back` is 256 where there is none
@@ -97,7 +82,7 @@ module _ (durations from to counts : List ℕ) (costs : List (List ℕ)) (starts
     pub edge : ℕ
     pub is-first : FirstMost 1024 l (reachInto T P) edge
     pub stops : most l (reachInto T P) ≡ 0 → back ≡ 256
-    pub goes : 0 < most l (reachInto T P) → (back ≡ getD from edge 0) × (time ≡ messageAt P edge)
+    pub goes : 0 < most l (reachInto T P) → (back ≡ getD from edge 0) × (time ≡ messageAt durations from counts costs starts processors P edge)
 
 -- the moves back from each of m tasks, through the processors that `through` has
 pub record Moves (m l : ℕ) (durations from to counts : List ℕ) (costs : List (List ℕ))

@@ -222,6 +222,25 @@ layCall I starts processors scratch =
     (called Short starts processors scratch)
     (laidOut (Last (lastOf I)) I starts processors scratch)
 
+-- ---- the messages of an edge, in a plan that the arrays hold
+
+module _ (durations from counts : List ℕ) (costs : List (List ℕ)) (starts processors : List ℕ) where
+  -- the time of edge k's messages to processor P, and when they are there
+  unfoldable pub messageAt : ℕ → ℕ → ℕ
+  messageAt P k = getD counts k 0 * entry costs (getD processors (getD from k 0) 0) P
+
+  unfoldable pub reachAt : ℕ → ℕ → ℕ
+  reachAt P k = getD starts (getD from k 0) 0 + getD durations (getD from k 0) 0 + messageAt P k
+
+  -- the task that edge k comes from has its places in the arrays, and no time on the way to P passes 32 bits
+  pub record Sender (P k : ℕ) : Type 0 where
+    pub has-start : getD from k 0 < length starts
+    pub has-duration : getD from k 0 < length durations
+    pub has-processor : getD from k 0 < length processors
+    pub on-processor : getD processors (getD from k 0) 0 < 16
+    pub in-time : getD starts (getD from k 0) 0 + getD durations (getD from k 0) 0 ≤ latestStart + mostDuration
+    pub near : messageAt P k ≤ mostMessageTime
+
 -- ---- the checker, in terms of the arrays
 
 -- the first m tasks can be judged: their places are there, and no sum passes 32 bits
@@ -258,22 +277,14 @@ module _ (durations starts processors : List ℕ) where
   -- the messages of edge k are not there in time
   unfoldable pub earlyAt : List ℕ → List ℕ → List ℕ → List (List ℕ) → ℕ → Bool
   earlyAt from to counts costs k =
-      ltb (getD starts (getD to k 0) 0)
-      (getD starts (getD from k 0) 0 + getD durations (getD from k 0) 0
-      + getD counts k 0 * entry costs (getD processors (getD from k 0) 0) (getD processors (getD to k 0) 0))
+      ltb (getD starts (getD to k 0) 0) (reachAt durations from counts costs starts processors (getD processors (getD to k 0) 0) k)
 
   -- edge k joins two tasks that can be judged: their places are there, and no sum passes 32 bits
   pub record Joined (from to counts : List ℕ) (costs : List (List ℕ)) (k : ℕ) : Type 0 where
-    pub sender-has-start : getD from k 0 < length starts
-    pub sender-has-duration : getD from k 0 < length durations
-    pub sender-has-processor : getD from k 0 < length processors
-    pub sender-on-processor : getD processors (getD from k 0) 0 < 16
-    pub sender-in-time : getD starts (getD from k 0) 0 ≤ latestStart
-    pub sender-short : getD durations (getD from k 0) 0 ≤ mostDuration
+    pub sender : Sender durations from counts costs starts processors (getD processors (getD to k 0) 0) k
     pub has-start : getD to k 0 < length starts
     pub has-processor : getD to k 0 < length processors
     pub on-processor : getD processors (getD to k 0) 0 < 16
-    pub near : getD counts k 0 * entry costs (getD processors (getD from k 0) 0) (getD processors (getD to k 0) 0) ≤ mostMessageTime
 
 -- ---- the checker's answer
 

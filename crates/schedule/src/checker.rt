@@ -1,4 +1,5 @@
 // The checker (document 01, "The checker"): the number of a plan's first trouble, or 0 for none.
+use crate::messages;
 ghost use mathlib.Core.Path.{_≡_};
 ghost use Prim.Native.Nat.{ℕ, _≤_, _<_};
 ghost use lib.ListN.{length, getD};
@@ -88,13 +89,10 @@ fn any_early(
 {
     let mut k: usize = 0;
     while k < edges {
-        let s = base::index(from[k]);
         let t = base::index(to[k]);
-        let p = base::index(processors[s]);
         let q = base::index(processors[t]);
-        let finish = starts[s] + durations[s];
-        let arrival = finish + base::wide16(counts[k]) * costs[p][q];
-        if starts[t] < arrival {
+        let sent = messages::of_edge(k, q, durations, from, counts, &costs, starts, processors);
+        if starts[t] < sent.arrival {
             return true;
         }
         k += 1;

@@ -2,6 +2,7 @@
 mod chains;
 mod checker;
 mod delivery;
+mod messages;
 mod planner;
 mod small;
 mod walk;

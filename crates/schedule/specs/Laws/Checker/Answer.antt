@@ -26,7 +26,7 @@ use Rattle.etf.specs.Checker.{latestStart, firstAnswer, misplaced, overlap, ear
 use Rattle.etf.specs.Laws.Checker.{overlap-of, overlap-in, early-of, early-in, overlapping, hasty}
 use Rattle.schedule.specs.Check.{checkOf, numberOf}
 use Rattle.schedule.specs.InArrays.{InArrays, Plannable, instanceIn}
-use Rattle.schedule.specs.Pass.{someIn, placeTrouble, placeTroubles, overlapAt, overlapsLater, earlyAt}
+use Rattle.schedule.specs.Pass.{someIn, placeTrouble, placeTroubles, overlapAt, overlapsLater, earlyAt, reachAt, messageAt}
 use Rattle.schedule.specs.Laws.Held.{held-tasks, timed}
 use Rattle.schedule.specs.Laws.Rows.SomeIn.{some-of, some-at, some-same, somePair, pair-of, pair-at, any-value, any-pair}
 
@@ -262,7 +262,7 @@ module _ {A : InArrays} (F : Plannable A) (starts processors : List ℕ) where
 
   -- of an edge each end has one placement
   early-is : (k : ℕ) → k < A .edges → somePair (earlyPair k) m ≡ earlyHeld k
-  unfolding earlyAt
+  unfolding earlyAt reachAt messageAt
   early-is k h = same-test _ _ to-arrays to-plan
     where
       to-arrays : Holds (somePair (earlyPair k) m) → Holds (earlyHeld k)

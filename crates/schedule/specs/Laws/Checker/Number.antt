@@ -13,7 +13,7 @@ use Rattle.etf.specs.Schedule.{Placement}
 use Rattle.etf.specs.Laws.Checker.{overlapping, hasty}
 use Rattle.schedule.specs.Check.{checkOf, numberOf}
 use Rattle.schedule.specs.InArrays.{InArrays, Plannable, instanceIn}
-use Rattle.schedule.specs.Pass.{Judgeable, Joined, someIn, placeTroubles, overlapsLater, earlyAt}
+use Rattle.schedule.specs.Pass.{messageAt, Judgeable, Joined, someIn, placeTroubles, overlapsLater, earlyAt}
 use Rattle.schedule.specs.Laws.Held.{held-tasks}
 use Rattle.schedule.specs.Laws.Checker.Answer.{planOf, InPlace, each-in-place, number-is, overlaps-are, hasty-is}
 
@@ -59,22 +59,24 @@ module _ {A : InArrays} (F : Plannable A) (starts processors : List ℕ) {r : �
 
       -- and so can the edges
       pub joined : (k : ℕ) → k < A .edges → Joined (A .durations) starts processors (A .from) (A .to) (A .counts) (A .costs) k
+      unfolding messageAt
       joined k h =
           let receiver = F .within k h in
           let sender : getD (A .from) k 0 < A .tasks = omega (arith, F .forward k h, receiver) in
           let sends = in-place (getD (A .from) k 0) sender in
           let receives = in-place (getD (A .to) k 0) receiver in
           record {
-            sender-has-start = omega (arith, room .0);
-            sender-has-duration = omega (arith, F .few-tasks, F .durations-size);
-            sender-has-processor = omega (arith, room .1);
-            sender-on-processor = omega (arith, sends .0, F .few-processors);
-            sender-in-time = sends .1;
-            sender-short = F .short (getD (A .from) k 0) sender;
+            sender = record {
+              has-start = omega (arith, room .0);
+              has-duration = omega (arith, F .few-tasks, F .durations-size);
+              has-processor = omega (arith, room .1);
+              on-processor = omega (arith, sends .0, F .few-processors);
+              in-time = omega (arith, sends .1, F .short (getD (A .from) k 0) sender);
+              near = F .near k _ _ h;
+            };
             has-start = omega (arith, receiver, room .0);
             has-processor = omega (arith, receiver, room .1);
             on-processor = omega (arith, receives .0, F .few-processors);
-            near = F .near k _ _ h;
           }
 
     abbrev someOverlap : Bool

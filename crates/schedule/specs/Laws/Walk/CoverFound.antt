@@ -21,7 +21,8 @@ use Rattle.schedule.specs.Call.{startOf, processorOf}
 use Rattle.schedule.specs.InArrays.{InArrays, instanceIn, Plannable}
 use Rattle.graph.specs.Graph.{edgesTo}
 use Rattle.schedule.specs.CoverPass.{FirstMost, Scheduled, IdleBefore, Through, HoldsPlan}
-use Rattle.schedule.specs.CoverPass.{Sender, reachInto, MovesBack, Moves, alongBack}
+use Rattle.schedule.specs.Pass.{messageAt, Sender}
+use Rattle.schedule.specs.CoverPass.{reachInto, MovesBack, Moves, alongBack}
 use Rattle.schedule.specs.Laws.Held.{held-tasks, well}
 use Rattle.schedule.specs.Laws.Walk.ShortTicks.{no-short, latest-short}
 use Rattle.schedule.specs.Laws.Walk.LatestEdge.{no-edge-no-latest, stops-there, goes-along, last-is}
@@ -40,16 +41,17 @@ holds-plan {I} {m} starts processors s p d e = record {
 -- each edge comes from a task of the schedule that the arrays hold
 pub sender : {A : InArrays} (F : Plannable A) {starts processors : List ℕ}
     → Scheduled (A .tasks) (A .durations) starts processors (A .processors)
-    → (k : ℕ) → k < A .edges → Sender (A .durations) (A .from) (A .counts) (A .costs) starts processors k
-sender {A} F S k h =
+    → (k P : ℕ) → k < A .edges → Sender (A .durations) (A .from) (A .counts) (A .costs) starts processors P k
+unfolding messageAt
+sender {A} F S k P h =
     let b : getD (A .from) k 0 < A .tasks = omega (arith, F .forward k h, F .within k h) in
     record {
       has-start = omega (arith, b, S .has-starts);
       has-duration = omega (arith, b, S .has-durations);
       has-processor = omega (arith, b, S .has-processors);
       on-processor = omega (arith, S .on-processor _ b, F .few-processors);
-      in-time = S .in-time _ b;
-      near = λ P. F .near k _ P h;
+      in-time = omega (arith, S .in-time _ b);
+      near = F .near k _ P h;
     }
 
 module _ {A : InArrays} (F : Plannable A) {starts processors : List ℕ} (H : HoldsPlan (instanceIn A) (A .tasks) starts processors)

@@ -29,7 +29,8 @@ use Rattle.etf.specs.Bounds.{mostMessageTime}
 use Rattle.schedule.specs.Call.{processorOf}
 use Rattle.schedule.specs.InArrays.{InArrays, instanceIn, Plannable}
 use Rattle.graph.specs.Graph.{edgesTo}
-use Rattle.schedule.specs.CoverPass.{FirstMost, messageAt, reachAt, reachInto, MovesBack, HoldsPlan}
+use Rattle.schedule.specs.Pass.{messageAt, reachAt}
+use Rattle.schedule.specs.CoverPass.{FirstMost, reachInto, MovesBack, HoldsPlan}
 use Rattle.schedule.specs.Laws.Held.{held-tasks, climb, edge-place, edge-into}
 use Rattle.schedule.specs.Laws.Walk.ShortTicks.{finish-is}
 
@@ -121,10 +122,10 @@ module _ {A : InArrays} (F : Plannable A) where
 
     -- the time of an edge's messages to P, and when they are there
     abbrev message : ℕ → ℕ → ℕ
-    message = messageAt durations from to (A .counts) (A .costs) starts processors
+    message = messageAt durations from (A .counts) (A .costs) starts processors
 
     abbrev arrival : ℕ → ℕ → ℕ
-    arrival = reachAt durations from to (A .counts) (A .costs) starts processors
+    arrival = reachAt durations from (A .counts) (A .costs) starts processors
 
     -- the latter of the edges to task T, 0 of the others
     abbrev into-at : ℕ → ℕ → ℕ → ℕ
