@@ -27,6 +27,13 @@ pub struct Choice {
     pub pair: Pair,
 }
 
+// A task that is done: when, and its edges, `first` to before `last`.
+pub struct Done {
+    pub finish: u32,
+    pub first: usize,
+    pub last: usize,
+}
+
 // Looks over the processors at the clock: the free ones go to `free`.
 pub fn survey(busy: &[u32], n: usize, clock: u32, free: &mut [usize]) -> Moment
     requires { ⌜ (n ≤ 16) × (length (now busy) ≡ 16) × (length (now free) ≡ 16) ⌝ }
@@ -263,6 +270,23 @@ pub fn put(
     waiting[task] = 65535;
 }
 
+// When the task of a pair is done, and its edges; `runs` has where those of each task begin.
+pub fn finish(pair: Pair, durations: &[u32], runs: &[u16]) -> Done
+    requires { ⌜ (pair .task < length (now durations)) × (pair .task < 256) × (length (now runs) ≡ 257) ⌝ }
+    requires { ⌜ pair .start + getD (now durations) (pair .task) 0 ≤ mostFinish ⌝ }
+    ensures { λ r. ⌜ r .finish ≡ pair .start + getD (now (durations .entry)) (pair .task) 0 ⌝ }
+    ensures { λ r. ⌜ r .first ≡ getD (now (runs .entry)) (pair .task) 0 ⌝ }
+    ensures { λ r. ⌜ r .last ≡ getD (now (runs .entry)) (pair .task + 1) 0 ⌝ }
+{
+    let t = pair.task;
+    let after = t + 1;
+    Done {
+        finish: pair.start + durations[t],
+        first: base::index16(runs[t]),
+        last: base::index16(runs[after]),
+    }
+}
+
 // Places a task that finishes at `finish` and sends along its edges; returns the first task that is left.
 fn place(
     pair: Pair,
@@ -342,18 +366,14 @@ pub fn run<'a>(
         let pair = choice.pair;
         let next = choice.next;
         if pair.start <= next {
-            let t = pair.task;
             let p = pair.processor;
-            let finish = pair.start + durations[t];
             let row = costs[p];
-            let after = t + 1;
-            let first = base::index16(runs[t]);
-            let last = base::index16(runs[after]);
+            let done = finish(pair, durations, &runs);
             low = place(
                 pair,
-                finish,
-                first,
-                last,
+                done.finish,
+                done.first,
+                done.last,
                 low,
                 tasks,
                 n,
@@ -367,8 +387,8 @@ pub fn run<'a>(
                 &mut latest,
                 &mut busy,
             );
-            if end < finish {
-                end = finish;
+            if end < done.finish {
+                end = done.finish;
             }
         } else {
             clock = next;

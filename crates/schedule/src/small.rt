@@ -426,14 +426,12 @@ pub fn run(
         let pair = choice.pair;
         let moment = choice.next;
         if pair.start <= moment {
-            let t = pair.task;
-            let finish = pair.start + durations[t];
-            let after = t + 1;
+            let done = planner::finish(pair, durations, &runs);
             low = place(
                 pair,
-                finish,
-                base::index16(runs[t]),
-                base::index16(runs[after]),
+                done.finish,
+                done.first,
+                done.last,
                 low,
                 tasks,
                 to,
@@ -443,8 +441,8 @@ pub fn run(
                 &mut waiting,
                 scratch,
             );
-            if end < finish {
-                end = finish;
+            if end < done.finish {
+                end = done.finish;
             }
         } else {
             clock = moment;

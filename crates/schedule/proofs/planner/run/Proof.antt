@@ -3,7 +3,7 @@ use mathlib.Core.Path.{_≡_, refl, sym}
 use mathlib.Core.Logic.{⊎-elim}
 use mathlib.Core.List.{List}
 use Prim.Native.Nat.{ℕ, _+_, _*_, _-_, _≤_, _<_, max}
-use native.Mathlib.Nat.{le-of-lt, lt-of-lt-of-le}
+use native.Mathlib.Nat.{le-of-lt}
 use native.Mathlib.Omega.{arith}
 use borrow.Author.Needs.{needs, scaled-fits, below-length}
 use lib.Dec.{lit<}
@@ -38,9 +38,6 @@ rounds-small rounds m h k = omega arith
 
 rounds-left : (rounds m : ℕ) → rounds < m → m - (rounds + 1) < m - rounds
 rounds-left rounds m h = omega arith
-
-next-small : (t : ℕ) → t < 256 → t + 1 < 257
-next-small t h = omega arith
 
 -- the same under other names
 carried : {A : InArrays} {starts₀ processors₀ arrivals₀ : List ℕ}
@@ -159,71 +156,49 @@ look-requires c κs =
       (Y .busy-size, Y .waiting-size, Y .latest-size, arrivals-room (given a) (room a) Y),
     )
 
-mul-finish : tie.Need-mul-finish Inv-loop μ-loop
-mul-finish c = scaled-fits _ 256 4 (small c) (lit< tt)
-
-shared-slice-read-finish : tie.Need-shared-slice-read-finish Inv-loop μ-loop
-shared-slice-read-finish c =
-    let w = c .before in
-    below-length ℕ (begun (a w) .args .durations .now) _ 256 (given (a w) .durations-size) (small w)
-
-add-finish : tie.Need-add-finish Inv-loop μ-loop
-add-finish c = fits-below tt (finish-low (c .before .before))
-
 mul-row : tie.Need-mul-row Inv-loop μ-loop
-mul-row c = scaled-fits _ 16 64 (on-processor (c .before .before)) (lit< tt)
+mul-row c = scaled-fits _ 16 64 (on-processor c) (lit< tt)
 
 array-copy-out-row : tie.Need-array-copy-out-row Inv-loop μ-loop
-array-copy-out-row c = on-processor (c .before .before)
+array-copy-out-row c = on-processor c
 
-add-after : tie.Need-add-after Inv-loop μ-loop
-add-after c = fits-below tt (le-of-lt (next-small _ (small (c .before .before .before))))
+slice-aggregate-finish : tie.Need-slice-aggregate-finish Inv-loop μ-loop
+slice-aggregate-finish c = sym (edge-runs (a (c .before .before)) .size)
 
-mul-index16 : tie.Need-mul-index16 Inv-loop μ-loop
-mul-index16 c = scaled-fits _ 256 2 (small (c .before .before .before)) (lit< tt)
-
-array-read-index16 : tie.Need-array-read-index16 Inv-loop μ-loop
-array-read-index16 c = lt-of-lt-of-le (small (c .before .before .before)) (le-of-lt (lit< tt))
-
-index16-requires : tie.Need-index16-requires Inv-loop μ-loop
-index16-requires c κs = search needs
-
-mul-index16-2 : tie.Need-mul-index16-2 Inv-loop μ-loop
-mul-index16-2 c = scaled-fits _ 257 2 (next-small _ (small (c .before .before .before .before))) (lit< tt)
-
-array-read-index16-2 : tie.Need-array-read-index16-2 Inv-loop μ-loop
-array-read-index16-2 c = next-small _ (small (c .before .before .before .before))
-
-index16-requires-2 : tie.Need-index16-requires-2 Inv-loop μ-loop
-index16-requires-2 c κs = search needs
+finish-requires : tie.Need-finish-requires Inv-loop μ-loop
+finish-requires c κs =
+    let w = c .before .before in
+    let there = below-length ℕ (begun (a w) .args .durations .now) _ 256 (given (a w) .durations-size) (small w) in
+    ((there, small w, edge-runs (a w) .size), finish-low w)
 
 slice-aggregate-place : tie.Need-slice-aggregate-place Inv-loop μ-loop
 slice-aggregate-place c =
-    let w = c .before .before .before .before .before .before in
+    let w = c .before .before .before .before in
     sym (given (a w) .row-size (pair w .processor) (on-processor w))
 
 slice-aggregate-place-2 : tie.Need-slice-aggregate-place-2 Inv-loop μ-loop
 slice-aggregate-place-2 c =
-    let w = c .before .before .before .before .before .before .before .before .before .before in
+    let w = c .before .before .before .before .before .before .before .before in
     sym (a w .loop .inv .waiting-size)
 
 slice-aggregate-place-3 : tie.Need-slice-aggregate-place-3 Inv-loop μ-loop
 slice-aggregate-place-3 c =
-    let w = c .before .before .before .before .before .before .before .before .before .before .before in
+    let w = c .before .before .before .before .before .before .before .before .before in
     sym (a w .loop .inv .latest-size)
 
 slice-aggregate-place-4 : tie.Need-slice-aggregate-place-4 Inv-loop μ-loop
 slice-aggregate-place-4 c =
-    let w = c .before .before .before .before .before .before .before .before .before .before .before .before in
+    let w = c .before .before .before .before .before .before .before .before .before .before in
     sym (a w .loop .inv .busy-size)
 
 place-requires : tie.Need-place-requires Inv-loop μ-loop
 place-requires c κs =
-    let last = c .before .before .before .before .before .before .before in
-    let w = last .before .before .before .before .before in
+    let at-finish = c .before .before .before .before .before .before .before in
+    let w = at-finish .before .before .before in
     let a = a w in
-    asked-of (last .before .index16 .ensures) (last .index162 .ensures)
-    (to-place (given a) (room a) (a .loop .inv) (remain (q w)) (at-look w .look .ensures) (in-time w) (edge-runs a) refl)
+    let done = at-finish .finish .ensures in
+    asked-of (done .1 .0) (done .1 .1)
+    (to-place (given a) (room a) (a .loop .inv) (remain (q w)) (at-look w .look .ensures) (in-time w) (edge-runs a) (done .0))
 
 add-rounds : tie.Need-add-rounds Inv-loop μ-loop
 add-rounds c =
@@ -245,17 +220,19 @@ loop-again c =
     let found = looked .look .ensures in
     let runs = edge-runs a in
     ⊎-elim
-    (λ w. let kept = w .13 .kept .1 .1 .1 .1 .1 .1 .1 .1 .1 .1 .1 .1 in
+    (λ w. let done = w .3 .ensures in
+    let kept = w .11 .kept .1 .1 .1 .1 .1 .1 .1 .1 .1 .1 .1 .1 in
     carried
-    (holds-placed (given a) (room a) (a .loop .inv) (remain q) found (omega (arith, w .0 .taken)) runs refl
-    (placed-of (w .4 .ensures) (w .5 .ensures) (w .13 .ensures)) (later _ _ (w .23 .taken)) (kept .0) (kept .1 .0) (kept .1 .1 .0))
-    (w .24) (w .25) (w .26) (w .27) (w .28) (w .29) (w .30) (w .31) (w .32))
+    (holds-placed (given a) (room a) (a .loop .inv) (remain q) found (omega (arith, w .0 .taken)) runs (done .0)
+    (placed-of (done .1 .0) (done .1 .1) (w .11 .ensures)) (later _ _ (w .22 .taken)) (kept .0) (kept .1 .0) (kept .1 .1 .0))
+    (w .23) (w .24) (w .25) (w .26) (w .27) (w .28) (w .29) (w .30) (w .31))
     (⊎-elim
-    (λ w. let kept = w .13 .kept .1 .1 .1 .1 .1 .1 .1 .1 .1 .1 .1 .1 in
+    (λ w. let done = w .3 .ensures in
+    let kept = w .11 .kept .1 .1 .1 .1 .1 .1 .1 .1 .1 .1 .1 .1 in
     carried
-    (holds-placed (given a) (room a) (a .loop .inv) (remain q) found (omega (arith, w .0 .taken)) runs refl
-    (placed-of (w .4 .ensures) (w .5 .ensures) (w .13 .ensures)) (not-later _ _ (w .23 .left)) (kept .0) (kept .1 .0) (kept .1 .1 .0))
-    (w .24) (w .25) (w .26) (w .27) (w .28) (w .29) (w .30) (w .31) (w .32))
+    (holds-placed (given a) (room a) (a .loop .inv) (remain q) found (omega (arith, w .0 .taken)) runs (done .0)
+    (placed-of (done .1 .0) (done .1 .1) (w .11 .ensures)) (not-later _ _ (w .22 .left)) (kept .0) (kept .1 .0) (kept .1 .1 .0))
+    (w .23) (w .24) (w .25) (w .26) (w .27) (w .28) (w .29) (w .30) (w .31))
     (λ w. carried (holds-moved (given a) (room a) (a .loop .inv) (remain q) found (omega (arith, w .0 .left)))
     (w .1) (w .2) (w .3) (w .4) (w .5) (w .6) (w .7) (w .8) (w .9)))
     (c .if1 .came)
@@ -285,18 +262,10 @@ run-spec =
     slice-aggregate-look-2
     slice-aggregate-look-3
     look-requires
-    mul-finish
-    shared-slice-read-finish
-    add-finish
     mul-row
     array-copy-out-row
-    add-after
-    mul-index16
-    array-read-index16
-    index16-requires
-    mul-index16-2
-    array-read-index16-2
-    index16-requires-2
+    slice-aggregate-finish
+    finish-requires
     slice-aggregate-place
     slice-aggregate-place-2
     slice-aggregate-place-3

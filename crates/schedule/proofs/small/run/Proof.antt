@@ -3,10 +3,9 @@ use mathlib.Core.Path.{_≡_, refl, sym}
 use mathlib.Core.Logic.{⊎-elim}
 use mathlib.Core.List.{List, replicate}
 use Prim.Native.Nat.{ℕ, _+_, _*_, _-_, _≤_, _<_, max}
-use native.Mathlib.Nat.{le-of-lt, lt-of-lt-of-le}
+use native.Mathlib.Nat.{le-of-lt}
 use native.Mathlib.Omega.{arith}
-use borrow.Author.Needs.{needs, scaled-fits, below-length}
-use lib.Dec.{lit<}
+use borrow.Author.Needs.{needs, below-length}
 use lib.ListN.{getD}
 use mir.Facts.{fits-below}
 use Rattle.base.specs.Laws.Lists.{zeros-at}
@@ -39,9 +38,6 @@ rounds-small rounds m h k = omega arith
 
 rounds-left : (rounds m : ℕ) → rounds < m → m - (rounds + 1) < m - rounds
 rounds-left rounds m h = omega arith
-
-next-small : (t : ℕ) → t < 256 → t + 1 < 257
-next-small t h = omega arith
 
 -- the same under other names
 carried : {A : InArrays} {starts₀ processors₀ scratch₀ : List ℕ}
@@ -176,55 +172,33 @@ look-requires c κs =
       ),
     )
 
-mul-finish : tie.Need-mul-finish Inv-loop μ-loop
-mul-finish c = scaled-fits _ 256 4 (small c) (lit< tt)
+slice-aggregate-finish : tie.Need-slice-aggregate-finish Inv-loop μ-loop
+slice-aggregate-finish c = sym (edge-runs (a (c .before)) .size)
 
-shared-slice-read-finish : tie.Need-shared-slice-read-finish Inv-loop μ-loop
-shared-slice-read-finish c =
+finish-requires : tie.Need-finish-requires Inv-loop μ-loop
+finish-requires c κs =
     let w = c .before in
-    below-length ℕ (begun (a w) .args .durations .now) _ 256 (given (a w) .durations-size) (small w)
-
-add-finish : tie.Need-add-finish Inv-loop μ-loop
-add-finish c = fits-below tt (finish-by (c .before .before))
-
-add-after : tie.Need-add-after Inv-loop μ-loop
-add-after c = fits-below tt (le-of-lt (next-small _ (small (c .before .before))))
-
-mul-index16 : tie.Need-mul-index16 Inv-loop μ-loop
-mul-index16 c = scaled-fits _ 256 2 (small (c .before .before)) (lit< tt)
-
-array-read-index16 : tie.Need-array-read-index16 Inv-loop μ-loop
-array-read-index16 c = lt-of-lt-of-le (small (c .before .before)) (le-of-lt (lit< tt))
-
-index16-requires : tie.Need-index16-requires Inv-loop μ-loop
-index16-requires c κs = search needs
-
-mul-index16-2 : tie.Need-mul-index16-2 Inv-loop μ-loop
-mul-index16-2 c = scaled-fits _ 257 2 (next-small _ (small (c .before .before .before))) (lit< tt)
-
-array-read-index16-2 : tie.Need-array-read-index16-2 Inv-loop μ-loop
-array-read-index16-2 c = next-small _ (small (c .before .before .before))
-
-index16-requires-2 : tie.Need-index16-requires-2 Inv-loop μ-loop
-index16-requires-2 c κs = search needs
+    let there = below-length ℕ (begun (a w) .args .durations .now) _ 256 (given (a w) .durations-size) (small w) in
+    ((there, small w, edge-runs (a w) .size), finish-by w)
 
 slice-aggregate-place : tie.Need-slice-aggregate-place Inv-loop μ-loop
 slice-aggregate-place c =
-    let w = c .before .before .before .before .before .before .before in
+    let w = c .before .before .before .before .before in
     sym (a w .loop .inv .inner .busy-size)
 
 slice-aggregate-place-2 : tie.Need-slice-aggregate-place-2 Inv-loop μ-loop
 slice-aggregate-place-2 c =
-    let w = c .before .before .before .before .before .before .before .before in
+    let w = c .before .before .before .before .before .before in
     sym (a w .loop .inv .inner .waiting-size)
 
 place-requires : tie.Need-place-requires Inv-loop μ-loop
 place-requires c κs =
-    let last = c .before .before .before .before .before in
-    let w = last .before .before .before .before in
+    let at-finish = c .before .before .before .before .before in
+    let w = at-finish .before .before in
     let a = a w in
-    asked-of (last .before .index16 .ensures) (last .index162 .ensures)
-    (to-enter (given a) (room a) (a .loop .inv) (at-look w .look .ensures) (remain (q w)) (in-time w) (edge-runs a) refl)
+    let done = at-finish .finish .ensures in
+    asked-of (done .1 .0) (done .1 .1)
+    (to-enter (given a) (room a) (a .loop .inv) (at-look w .look .ensures) (remain (q w)) (in-time w) (edge-runs a) (done .0))
 
 add-rounds : tie.Need-add-rounds Inv-loop μ-loop
 add-rounds c =
@@ -246,17 +220,19 @@ loop-again c =
     let found = looked .look .ensures in
     let runs = edge-runs a in
     ⊎-elim
-    (λ w. let kept = w .10 .kept .1 .1 .1 .1 .1 .1 .1 .1 .1 .1 in
+    (λ w. let done = w .2 .ensures in
+    let kept = w .8 .kept .1 .1 .1 .1 .1 .1 .1 .1 .1 .1 in
     carried
-    (follows-placed (given a) (room a) (a .loop .inv) found (remain q) (omega (arith, w .0 .taken)) runs refl
-    (entered-of (w .3 .ensures) (w .4 .ensures) (w .10 .ensures)) (later _ _ (w .19 .taken)) (kept .0) (kept .1 .0))
-    (w .20) (w .21) (w .22) (w .23) (w .24) (w .25) (w .26) (w .27))
+    (follows-placed (given a) (room a) (a .loop .inv) found (remain q) (omega (arith, w .0 .taken)) runs (done .0)
+    (entered-of (done .1 .0) (done .1 .1) (w .8 .ensures)) (later _ _ (w .18 .taken)) (kept .0) (kept .1 .0))
+    (w .19) (w .20) (w .21) (w .22) (w .23) (w .24) (w .25) (w .26))
     (⊎-elim
-    (λ w. let kept = w .10 .kept .1 .1 .1 .1 .1 .1 .1 .1 .1 .1 in
+    (λ w. let done = w .2 .ensures in
+    let kept = w .8 .kept .1 .1 .1 .1 .1 .1 .1 .1 .1 .1 in
     carried
-    (follows-placed (given a) (room a) (a .loop .inv) found (remain q) (omega (arith, w .0 .taken)) runs refl
-    (entered-of (w .3 .ensures) (w .4 .ensures) (w .10 .ensures)) (not-later _ _ (w .19 .left)) (kept .0) (kept .1 .0))
-    (w .20) (w .21) (w .22) (w .23) (w .24) (w .25) (w .26) (w .27))
+    (follows-placed (given a) (room a) (a .loop .inv) found (remain q) (omega (arith, w .0 .taken)) runs (done .0)
+    (entered-of (done .1 .0) (done .1 .1) (w .8 .ensures)) (not-later _ _ (w .18 .left)) (kept .0) (kept .1 .0))
+    (w .19) (w .20) (w .21) (w .22) (w .23) (w .24) (w .25) (w .26))
     (λ w. carried (follows-moved (given a) (room a) (a .loop .inv) found (remain q) (omega (arith, w .0 .left)))
     (w .1) (w .2) (w .3) (w .4) (w .5) (w .6) (w .7) (w .8)))
     (c .if1 .came)
@@ -288,16 +264,8 @@ run-spec =
     slice-aggregate-look-3
     slice-aggregate-look-4
     look-requires
-    mul-finish
-    shared-slice-read-finish
-    add-finish
-    add-after
-    mul-index16
-    array-read-index16
-    index16-requires
-    mul-index16-2
-    array-read-index16-2
-    index16-requires-2
+    slice-aggregate-finish
+    finish-requires
     slice-aggregate-place
     slice-aggregate-place-2
     place-requires
