@@ -1,8 +1,10 @@
-// Numbers of one width as numbers of another, numbers over a byte, and the lesser of two.
+// Numbers of one width as numbers of another, numbers over a byte, the lesser of two, and a slice cleared.
 ghost use mathlib.Core.Path.{_≡_};
 ghost use mathlib.Core.List.{[], _∷_};
 ghost use Prim.Native.Nat.{_<_, min};
+ghost use lib.ListN.{length};
 ghost use Rattle.base.specs.Number.{number};
+ghost use Rattle.base.specs.Slices.{filled};
 
 // A byte as a place in an array.
 pub fn index(x: u8) -> usize
@@ -37,6 +39,18 @@ pub fn least(a: usize, b: usize) -> usize
     ensures { λ r. ⌜ r ≡ min a b ⌝ }
 {
     if a < b { a } else { b }
+}
+
+// Sets the first places of a slice to 0, or all where it has no more.
+pub fn clear(slice: &mut [u32], places: usize)
+    ensures { λ _. ⌜ now (slice .exit) ≡ filled (λ x. 0) (min places (length (now (slice .entry)))) (now (slice .entry)) ⌝ }
+{
+    let end = least(places, slice.len());
+    let mut x: usize = 0;
+    while x < end {
+        slice[x] = 0;
+        x += 1;
+    }
 }
 
 // The number of 2 bytes, the low one first.

@@ -78,18 +78,6 @@ fn too_short(tasks: usize, starts: usize, processors: usize, scratch: usize, pla
     scratch < places
 }
 
-// Sets the first places to 0.
-fn clear(scratch: &mut [u32], places: usize)
-    requires { ⌜ places ≤ length (now scratch) ⌝ }
-    ensures { λ _. ⌜ now (scratch .exit) ≡ filled (λ x. 0) places (now (scratch .entry)) ⌝ }
-{
-    let mut x: usize = 0;
-    while x < places {
-        scratch[x] = 0;
-        x += 1;
-    }
-}
-
 // Lays the plan of an instance out in the slices, if there is room.
 fn lay_out<'a>(
     n: usize,
@@ -112,7 +100,7 @@ fn lay_out<'a>(
     if too_short(tasks, starts.len(), processors.len(), scratch.len(), 4096) {
         return Laid::Short;
     }
-    clear(scratch, 4096);
+    base::clear(scratch, 4096);
     Laid::Last(planner::run(
         n,
         tasks,
@@ -190,7 +178,7 @@ fn lay_small(
     if too_short(tasks, starts.len(), processors.len(), scratch.len(), 512) {
         return Laid::Short;
     }
-    clear(scratch, 512);
+    base::clear(scratch, 512);
     let last = small::run(
         n,
         tasks,
@@ -204,7 +192,7 @@ fn lay_small(
         processors,
         scratch,
     );
-    clear(scratch, 512); // 02 §4: it "leaves those 512 at zero"
+    base::clear(scratch, 512); // 02 §4: it "leaves those 512 at zero"
     Laid::Last(last)
 }
 

@@ -3,7 +3,7 @@
 use mathlib.Core.Path.{_≡_, refl, ap, sym, _∙_}
 use mathlib.Core.Logic.{_⊎_, inl, inr}
 use mathlib.Core.List.{List, _++_, map}
-use Prim.Native.Nat.{ℕ, _+_, _-_, _≤_, _<_}
+use Prim.Native.Nat.{ℕ, _+_, _-_, _≤_, _<_, min}
 use native.Mathlib.Omega.{arith}
 use lib.ListN.{length, getD, drop, set, length-append, length-drop, length-set, List·getD-append}
 use lib.Seq.{getD-append-add, getD-drop, getD-set-same, getD-set-other, ext-getD}
@@ -38,6 +38,10 @@ is-filled f k l l′ h e a b = ext-getD 0 l′ (filled f k l) (e ∙ sym (filled
     go : (i : ℕ) → (k ≤ i) ⊎ (i < k) → getD l′ i 0 ≡ getD (filled f k l) i 0
     go i (inl p) = b i p ∙ sym (filled-past f k l i p h)
     go i (inr p) = a i p ∙ sym (filled-at f k l i p)
+
+-- as many places as the slice has at most: no more than are there
+pub filled-within : (f : ℕ → ℕ) (k : ℕ) (l : List ℕ) {l′ : List ℕ} → k ≤ length l → l′ ≡ filled f (min k (length l)) l → l′ ≡ filled f k l
+filled-within f k l h e = let m : min k (length l) ≡ k = omega arith in rw m at e
 
 pub filled-none : (f : ℕ → ℕ) (l : List ℕ) → filled f 0 l ≡ l
 unfolding filled upto

@@ -1,5 +1,6 @@
 -- `lay_out` refuses where a slice is too short, and else leaves what `planner::run` leaves over a cleared scratch.
 use borrow.Author.Needs.{needs}
+use Rattle.base.specs.Laws.Filled.{filled-within}
 use Rattle.schedule.specs.Laws.Calls.{long-enough, cleared-room, laid-short, laid-end}
 use Rattle.schedule.proofs.lay_out.Statement.{statement}
 use Rattle.schedule.proofs.lay_out.Tie as tie
@@ -20,14 +21,15 @@ returns : tie.Need-returns
 returns c = laid-short (start-of (c .before) .pre) _ _ _ (c .before .too-short .ensures) (c .if1 .taken)
 
 clear-requires : tie.Need-clear-requires
-clear-requires c κs = long-enough (c .before .before .too-short .ensures) (c .before .if1 .left) .2
+clear-requires c κs = search needs
 
 run-requires : tie.Need-run-requires
 run-requires c κs =
     let at-clear = c .before .before .before .before .before in
     let at-short = short-of at-clear in
     let fits = long-enough (at-short .too-short .ensures) (room-of at-clear .if1 .left) in
-    (start-of at-short .pre, cleared-room _ fits (at-clear .clear .ensures))
+    let scratch = start-of at-short .args .scratch .now in
+    (start-of at-short .pre, cleared-room scratch fits (filled-within (λ x. 0) 4096 scratch (fits .2) (at-clear .clear .ensures)))
 
 same-length : tie.Need-same-length
 same-length c = search needs
@@ -43,8 +45,9 @@ returns-2 c =
     let at-run = c .before .before .before .before .before .before in
     let at-clear = at-run .before .before .before .before .before .before in
     let at-short = short-of at-clear in
+    let fits = long-enough (at-short .too-short .ensures) (room-of at-clear .if1 .left) in
     laid-end (start-of at-short .pre) _ _ _ (at-short .too-short .ensures) (room-of at-clear .if1 .left)
-    (at-clear .clear .ensures) (at-run .run .ensures)
+    (filled-within (λ x. 0) 4096 (start-of at-short .args .scratch .now) (fits .2) (at-clear .clear .ensures)) (at-run .run .ensures)
 
 pub lay-out-spec : {M : Type 1} → statement M
 lay-out-spec =

@@ -1,6 +1,9 @@
 -- `lay_small` refuses where a slice is too short, and else leaves what `small::run` leaves, and a cleared scratch.
+use Prim.Native.Nat.{_≤_}
 use native.Mathlib.Omega.{arith}
 use borrow.Author.Needs.{needs}
+use lib.ListN.{length}
+use Rattle.base.specs.Laws.Filled.{filled-within}
 use Rattle.schedule.specs.Laws.Calls.{long-enough}
 use Rattle.schedule.specs.Laws.SmallCalls.{small-room, small-short, small-end}
 use Rattle.schedule.proofs.lay_small.Statement.{statement}
@@ -25,21 +28,21 @@ returns : tie.Need-returns
 returns c = small-short (start-of (c .before) .pre) _ _ _ _ (c .before .too-short .ensures) (c .if1 .taken) (omega arith)
 
 clear-requires : tie.Need-clear-requires
-clear-requires c κs = omega (arith, long-enough (c .before .before .too-short .ensures) (c .before .if1 .left) .2)
+clear-requires c κs = search needs
 
 run-requires : tie.Need-run-requires
 run-requires c κs =
     let at-clear = c .before .before .before .before .before in
     let at-short = short-of at-clear in
     let fits = long-enough (at-short .too-short .ensures) (room-of at-clear .if1 .left) in
-    (start-of at-short .pre, small-room _ (fits .0, fits .1, omega (arith, fits .2)) (at-clear .clear .ensures))
+    let scratch = start-of at-short .args .scratch .now in
+    let wide : 512 ≤ length scratch = omega (arith, fits .2) in (
+      start-of at-short .pre,
+      small-room scratch (fits .0, fits .1, wide) (filled-within (λ x. 0) 512 scratch wide (at-clear .clear .ensures)),
+    )
 
 clear-requires-2 : tie.Need-clear-requires-2
-clear-requires-2 c κs =
-    let at-run = c .before .before .before .before .before .before .before in
-    let at-clear = clear-of at-run in
-    let fits = long-enough (short-of at-clear .too-short .ensures) (room-of at-clear .if1 .left) in
-    omega (arith, fits .2, at-clear .clear .kept .0, at-run .run .kept .1 .1 .1 .1 .1 .1 .1 .1 .1 .1 .0)
+clear-requires-2 c κs = search needs
 
 same-length : tie.Need-same-length
 same-length c = search needs
@@ -56,9 +59,12 @@ returns-2 c =
     let at-run = at-again .before .before .before .before .before .before .before .before in
     let at-clear = clear-of at-run in
     let at-short = short-of at-clear in
+    let fits = long-enough (at-short .too-short .ensures) (room-of at-clear .if1 .left) in
+    let scratch = start-of at-short .args .scratch .now in
+    let wide : 512 ≤ length scratch = omega (arith, fits .2) in
     small-end (start-of at-short .pre) _ _ _ _ (at-short .too-short .ensures) (room-of at-clear .if1 .left) (omega arith)
-    (at-clear .clear .ensures) (at-run .run .kept .1 .1 .1 .1 .1 .1 .1 .1 .1 .1 .0) (at-run .run .ensures) _
-    (at-again .clear2 .ensures) (omega arith)
+    (filled-within (λ x. 0) 512 scratch wide (at-clear .clear .ensures))
+    (at-run .run .kept .1 .1 .1 .1 .1 .1 .1 .1 .1 .1 .0) (at-run .run .ensures) _ (at-again .clear2 .ensures) (omega arith)
 
 pub lay-small-spec : {M : Type 1} → statement M
 lay-small-spec =

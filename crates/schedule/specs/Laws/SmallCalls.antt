@@ -2,14 +2,14 @@
 use mathlib.Core.Bool.{Bool, true, false, _||_}
 use mathlib.Core.Path.{_≡_, refl, ap, sym, subst, _∙_}
 use mathlib.Core.List.{List}
-use Prim.Native.Nat.{ℕ, _≤_}
+use Prim.Native.Nat.{ℕ, _≤_, min}
 use native.Mathlib.Omega.{arith}
 use borrow.Author.Tests.{ltb-false}
 use lib.Dec.{ltb}
 use lib.ListN.{length, getD}
 use Rattle.base.specs.Choice.{pick}
 use Rattle.base.specs.Slices.{filled}
-use Rattle.base.specs.Laws.Filled.{filled-length, filled-at, filled-past, is-filled}
+use Rattle.base.specs.Laws.Filled.{filled-length, filled-at, filled-past, filled-within, is-filled}
 use Rattle.job.specs.declared.Reading.{Reading}
 use Rattle.etf.specs.Instance.{Instance, tasks}
 use Rattle.etf.specs.OfJob.{instance}
@@ -68,11 +68,13 @@ module _ {A : InArrays} (F : Plannable A) (starts processors scratch : List ℕ)
   pub small-end : (n : ℕ) {t : Bool} {r : ℕ} {starts′ processors′ cleared used after : List ℕ}
       → t ≡ shortOf n (A .tasks) (length starts) (length processors) (length scratch) → t ≡ false → n ≡ smallPlaces
       → cleared ≡ filled (λ x. 0) 512 scratch → length used ≡ length cleared
-      → SmallRun I starts processors cleared r starts′ processors′ used → (c : ℕ) → after ≡ filled (λ x. 0) c used → c ≡ smallPlaces
-      → called (Last r) starts′ processors′ after ≡ laySmall I starts processors scratch
+      → SmallRun I starts processors cleared r starts′ processors′ used → (c : ℕ) → after ≡ filled (λ x. 0) (min c (length used)) used
+      → c ≡ smallPlaces → called (Last r) starts′ processors′ after ≡ laySmall I starts processors scratch
   unfolding laySmall laidSmall
   small-end n {cleared = cleared} {used} {after} e w d f size R c g z =
-      let again = cleared-again scratch cleared used after (omega (arith, long-enough e w .2)) f size (R .rest) (rw z at g) in
+      let room : 512 ≤ length scratch = omega (arith, long-enough e w .2) in
+      let wide : 512 ≤ length used = omega (arith, size, ap length f, filled-length (λ x. 0) 512 scratch room) in
+      let again = cleared-again scratch cleared used after room f size (R .rest) (filled-within (λ x. 0) 512 used wide (rw z at g)) in
       rw (short-is F starts processors scratch smallPlaces (rw d at e) w, R .last-is, R .starts-are, R .processors-are, again)
 
   -- where it is laid out, the slices hold it, and the answer is its last finish
