@@ -80,35 +80,31 @@ pub fn hold(jobs: &[(Vec<u8>, usize)]) {
 }
 
 fn time_covers(family: &Family) {
-    let files = &family.files;
     let (mut ours, mut rust) = (Lent::new(ROOMS), Lent::new(ROOMS));
-    let times = timing::timed(
-        |i| {
-            let file = &files[i % files.len()];
-            black_box(black_box(&mut ours).to(proved::cover, black_box(file)));
+    timing::compare(
+        &format!("cover {}", family.name),
+        &family.files,
+        |file| {
+            black_box(black_box(&mut ours).to(proved::cover, file));
         },
-        |i| {
-            let file = &files[i % files.len()];
-            black_box(black_box(&mut rust).to(cover::cover, black_box(file)));
+        |file| {
+            black_box(black_box(&mut rust).to(cover::cover, file));
         },
     );
-    timing::report(&format!("cover {}", family.name), times);
 }
 
 fn time_beside(family: &Family) {
-    let files = &family.files;
     let (mut lent, mut plan) = (Lent::new(ROOMS), [0; 5 * TASKS]);
-    let times = timing::timed(
-        |i| {
-            let file = &files[i % files.len()];
-            black_box(black_box(&mut lent).to(proved::cover, black_box(file)));
+    timing::compare(
+        &format!("cover/plan {}", family.name),
+        &family.files,
+        |file| {
+            black_box(black_box(&mut lent).to(proved::cover, file));
         },
-        |i| {
-            let file = &files[i % files.len()];
-            black_box(proved::plan(black_box(file), black_box(&mut plan)));
+        |file| {
+            black_box(proved::plan(file, black_box(&mut plan)));
         },
     );
-    timing::report(&format!("cover/plan {}", family.name), times);
 }
 
 pub fn time(families: &[Family]) {

@@ -90,17 +90,16 @@ fn planned(family: &Family) -> Vec<(&[u8], Plan)> {
 fn time_pages(family: &Family) {
     let pairs = planned(family);
     let (mut ours, mut rust) = ([0; PAGE], [0; PAGE]);
-    let times = timing::timed(
-        |i| {
-            let (file, plan) = &pairs[i % pairs.len()];
-            black_box(black_box(plan).to(proved::draw, black_box(file), black_box(&mut ours)));
+    timing::compare(
+        &format!("draw {}", family.name),
+        &pairs,
+        |(file, plan)| {
+            black_box(plan.to(proved::draw, file, black_box(&mut ours)));
         },
-        |i| {
-            let (file, plan) = &pairs[i % pairs.len()];
-            black_box(black_box(plan).to(page::draw, black_box(file), black_box(&mut rust)));
+        |(file, plan)| {
+            black_box(plan.to(page::draw, file, black_box(&mut rust)));
         },
     );
-    timing::report(&format!("draw {}", family.name), times);
 }
 
 pub fn time(families: &[Family]) {

@@ -133,20 +133,29 @@ pub fn hold(jobs: &[(Vec<u8>, usize)]) {
     checked.print("their plans, as planned and altered: both checkers");
 }
 
-fn time_planners(family: &Family) {
-    let files = &family.files;
-    let (mut ours, mut rust) = ([0; 5 * TASKS], [0; 5 * TASKS]);
-    let times = timing::timed(
-        |i| {
-            let file = &files[i % files.len()];
-            black_box(proved::plan(black_box(file), black_box(&mut ours)));
+/// Times two planners, each as C calls it, on the jobs of a family.
+pub fn compare(
+    what: &str,
+    family: &Family,
+    one: impl Fn(&[u8], &mut [u8]) -> u32,
+    other: impl Fn(&[u8], &mut [u8]) -> u32,
+) {
+    let (mut a, mut b) = ([0; 5 * TASKS], [0; 5 * TASKS]);
+    timing::compare(
+        what,
+        &family.files,
+        |file| {
+            black_box(one(file, black_box(&mut a)));
         },
-        |i| {
-            let file = &files[i % files.len()];
-            black_box(rust_plan(black_box(file), black_box(&mut rust)));
+        |file| {
+            black_box(other(file, black_box(&mut b)));
         },
     );
-    timing::report(&format!("plan {}", family.name), times);
+}
+
+fn time_planners(family: &Family) {
+    let what = format!("plan {}", family.name);
+    compare(&what, family, proved::plan, rust_plan);
 }
 
 fn time_checkers(family: &Family) {
@@ -156,17 +165,16 @@ fn time_checkers(family: &Family) {
         (file.clone(), plan)
     };
     let pairs: Vec<_> = family.files.iter().map(planned).collect();
-    let times = timing::timed(
-        |i| {
-            let (file, plan) = &pairs[i % pairs.len()];
-            black_box(proved::check(black_box(file), black_box(plan)));
+    timing::compare(
+        &format!("check {}", family.name),
+        &pairs,
+        |(file, plan)| {
+            black_box(proved::check(file, plan));
         },
-        |i| {
-            let (file, plan) = &pairs[i % pairs.len()];
-            black_box(checker::check(black_box(file), black_box(plan)));
+        |(file, plan)| {
+            black_box(checker::check(file, plan));
         },
     );
-    timing::report(&format!("check {}", family.name), times);
 }
 
 pub fn time(families: &[Family]) {

@@ -1,12 +1,10 @@
 //! The small planner: held against our planner and against the plain Rust ones, then timed against the plain Rust small planner and
 //! against our planner; and the stack that ours takes.
-use std::hint::black_box;
-
 use crate::families::{Family, TASKS};
 use crate::job::{self, Reading, Verdict};
 use crate::planner::Planner;
 use crate::tally::Tally;
-use crate::{plans, proved, small, stack, timing};
+use crate::{plans, proved, small, stack};
 
 /// Places of the scratch.
 const SCRATCH: usize = 512;
@@ -129,35 +127,13 @@ pub fn hold(jobs: &[(Vec<u8>, usize)]) {
 }
 
 fn time_planners(family: &Family) {
-    let files = &family.files;
-    let (mut ours, mut rust) = ([0; 5 * TASKS], [0; 5 * TASKS]);
-    let times = timing::timed(
-        |i| {
-            let file = &files[i % files.len()];
-            black_box(proved::plan_small(black_box(file), black_box(&mut ours)));
-        },
-        |i| {
-            let file = &files[i % files.len()];
-            black_box(rust_plan(black_box(file), black_box(&mut rust)));
-        },
-    );
-    timing::report(&format!("plan small {}", family.name), times);
+    let what = format!("plan small {}", family.name);
+    plans::compare(&what, family, proved::plan_small, rust_plan);
 }
 
 fn time_beside(family: &Family) {
-    let files = &family.files;
-    let (mut small, mut plan) = ([0; 5 * TASKS], [0; 5 * TASKS]);
-    let times = timing::timed(
-        |i| {
-            let file = &files[i % files.len()];
-            black_box(proved::plan_small(black_box(file), black_box(&mut small)));
-        },
-        |i| {
-            let file = &files[i % files.len()];
-            black_box(proved::plan(black_box(file), black_box(&mut plan)));
-        },
-    );
-    timing::report(&format!("small/plan {}", family.name), times);
+    let what = format!("small/plan {}", family.name);
+    plans::compare(&what, family, proved::plan_small, proved::plan);
 }
 
 pub fn time(families: &[Family]) {

@@ -1,5 +1,7 @@
 //! Times two functions in turns, by the processor time of the thread: what other programs take in between does not count. Of ours
 //! each start in a line of the cache has its turns, and a time is the mean over the starts.
+use std::hint::black_box;
+
 use crate::proved;
 
 /// For each start.
@@ -108,4 +110,13 @@ pub fn report(what: &str, [one, other]: [Times; 2]) {
         other.least,
         one.least / other.least
     );
+}
+
+/// Times two calls on these jobs, in turns, and prints what they took.
+pub fn compare<T>(what: &str, jobs: &[T], mut one: impl FnMut(&T), mut other: impl FnMut(&T)) {
+    let times = timed(
+        |i| one(black_box(&jobs[i % jobs.len()])),
+        |i| other(black_box(&jobs[i % jobs.len()])),
+    );
+    report(what, times);
 }
