@@ -76,8 +76,8 @@
  * - The bytes of the job, of the plan and of the page do not overlap, and nobody else writes to them
  *   during a call, nor reads the plan that kelvrist_plan or kelvrist_plan_small is filling or the page
  *   that kelvrist_page is.
- * - The stack has room: kelvrist_plan takes about 35 KB, kelvrist_plan_small 16 KB,
- *   kelvrist_check about 15 KB, kelvrist_page about 21 KB.
+ * - The stack has room: kelvrist_plan takes about 35 KB, kelvrist_plan_small and kelvrist_check about
+ *   15 KB, kelvrist_page about 21 KB.
  *
  * The library takes nothing from the heap, has no global data and keeps nothing between calls: calls
  * may run at the same time in different threads. Of the C library it needs memcpy and memset alone. It
