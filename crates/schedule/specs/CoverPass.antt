@@ -82,7 +82,8 @@ module _ (durations from to counts : List ℕ) (costs : List (List ℕ)) (starts
     pub edge : ℕ
     pub is-first : FirstMost 1024 l (reachInto T P) edge
     pub stops : most l (reachInto T P) ≡ 0 → back ≡ 256
-    pub goes : 0 < most l (reachInto T P) → (back ≡ getD from edge 0) × (time ≡ messageAt durations from counts costs starts processors P edge)
+    pub goes : 0 < most l (reachInto T P)
+        → (back ≡ getD from edge 0) × (time ≡ messageAt durations from counts costs starts processors P edge)
 
 -- the moves back from each of m tasks, through the processors that `through` has
 pub record Moves (m l : ℕ) (durations from to counts : List ℕ) (costs : List (List ℕ))

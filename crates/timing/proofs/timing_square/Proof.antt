@@ -1,5 +1,5 @@
 -- `timing::timing_square`: a row or a column past the sixteenth has no entry.
-use mathlib.Core.Path.{_≡_, sym, ap, _∙_}
+use mathlib.Core.Path.{_≡_, sym, ap}
 use mathlib.Core.List.{List, []}
 use Prim.Native.Nat.{ℕ, _≤_, _<_}
 use native.Mathlib.Omega.{arith}
@@ -18,7 +18,9 @@ module _ (n t u : ℕ) (wires : List ℕ) (p q : ℕ) where
 
   no-row : 16 ≤ p → 0 ≡ squareTimed n t u wires p q
   unfolding squareTimed
-  no-row h = sym (ap (λ (row : List ℕ). getD row q 0) (List·getD-eq-default (square n costOf) [] {n = p} (omega (arith, square-length n costOf))))
+  no-row h =
+      let none = List·getD-eq-default (square n costOf) [] {n = p} (omega (arith, square-length n costOf)) in
+      sym (ap (λ (row : List ℕ). getD row q 0) none)
 
   no-column : p < 16 → 16 ≤ q → 0 ≡ squareTimed n t u wires p q
   unfolding squareTimed
