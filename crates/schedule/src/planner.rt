@@ -1,6 +1,7 @@
 // The planning rule (document 01, "The planning rule").
 ghost use mathlib.Core.Path.{_≡_};
 ghost use Prim.Native.Nat.{ℕ, _+_, _*_, _-_, _≤_, _<_};
+ghost use mathlib.Core.List.{[]};
 ghost use lib.ListN.{length, getD, set};
 ghost use Rattle.etf.specs.Bounds.{mostMessageTime, mostFinish};
 ghost use Rattle.schedule.specs.InArrays.{byNumber, instanceIn, Plannable};
@@ -296,7 +297,7 @@ fn place(
     low: usize,
     tasks: usize,
     n: usize,
-    row: &[u32],
+    costs: &[[u32; 16]; 16],
     to: &[u8],
     counts: &[u16],
     starts: &mut [u32],
@@ -306,9 +307,10 @@ fn place(
     latest: &mut [u32],
     busy: &mut [u32],
 ) -> usize
-    requires { ⌜ ToPlace pair finish first last low tasks n (now row) (now to) (now counts)
+    requires { ⌜ ToPlace pair finish first last low tasks n (getD (now costs) (pair .processor) []) (now to) (now counts)
         (tables (now starts) (now processors) (now busy) (inbox (now arrivals) (now waiting) (now latest))) ⌝ }
-    ensures { λ r. ⌜ Placed pair finish first last low tasks n (λ i. i) (now (row .entry)) (now (to .entry)) (now (counts .entry))
+    ensures { λ r. ⌜ Placed pair finish first last low tasks n (λ i. i) (getD (now (costs .entry)) (pair .processor) [])
+        (now (to .entry)) (now (counts .entry))
         (tables (now (starts .entry)) (now (processors .entry)) (now (busy .entry))
         (inbox (now (arrivals .entry)) (now (waiting .entry)) (now (latest .entry))))
         (tables (now (starts .exit)) (now (processors .exit)) (now (busy .exit))
@@ -316,13 +318,14 @@ fn place(
 {
     let t = pair.task;
     let p = pair.processor;
+    let row = costs[p];
     put(t, p, pair.start, finish, starts, processors, busy, waiting);
     send(
         first,
         last,
         finish,
         n,
-        row,
+        &row,
         to,
         counts,
         arrivals,
@@ -366,8 +369,6 @@ pub fn run<'a>(
         let pair = choice.pair;
         let next = choice.next;
         if pair.start <= next {
-            let p = pair.processor;
-            let row = costs[p];
             let done = finish(pair, durations, &runs);
             low = place(
                 pair,
@@ -377,7 +378,7 @@ pub fn run<'a>(
                 low,
                 tasks,
                 n,
-                &row,
+                &costs,
                 to,
                 counts,
                 starts,

@@ -1,8 +1,10 @@
 -- `planner::place` writes the pair down, sends along the task's edges and skips the placed tasks: it promises what these three promise.
-use mathlib.Core.Path.{_≡_, ap, _∙_}
+use mathlib.Core.Path.{_≡_, sym, ap, _∙_}
 use mathlib.Core.List.{List}
 use Prim.Native.Nat.{ℕ, _≤_, _<_}
 use native.Mathlib.Omega.{arith}
+use borrow.Author.Needs.{scaled-fits}
+use lib.Dec.{lit<}
 use lib.ListN.{length, set, length-set}
 use Rattle.schedule.specs.declared.planner.Pair.{Pair}
 use Rattle.schedule.specs.Pass.{inbox, tables, placedMark, ToSend, Sent, ToPlace, Skipped, Placed}
@@ -44,10 +46,16 @@ abbrev start-of : tie.After-put → tie.Start
 start-of p = p .before .before .before .before .before .before .before .before .before .before .before .before .before .before
 
 abbrev put-of : tie.After-send → tie.After-put
-put-of s = s .before .before .before .before .before .before .before .before .before .before .before .before
+put-of s = s .before .before .before .before .before .before .before .before .before .before .before .before .before
 
 abbrev send-of : tie.After-skip → tie.After-send
 send-of c = c .before .before .before .before .before .before .before .before
+
+mul-row : tie.Need-mul-row
+mul-row c = scaled-fits _ 16 64 (c .before .before .before .before .before .before .before .before .pre .processor-below) (lit< tt)
+
+element-copy-out-row : tie.Need-element-copy-out-row
+element-copy-out-row c = c .before .before .before .before .before .before .before .before .pre .processor-below
 
 put-requires : tie.Need-put-requires
 put-requires c κs =
@@ -56,9 +64,12 @@ put-requires c κs =
       (omega (arith, asked .processor-below, asked .busy-size), omega (arith, asked .processor-below)),
     )
 
+slice-aggregate-send : tie.Need-slice-aggregate-send
+slice-aggregate-send c = sym (start-of (c .before .before .before .before .before .before .before .before .before) .pre .sending .row-size)
+
 send-requires : tie.Need-send-requires
 send-requires c κs =
-    let at-put = c .before .before .before .before .before .before .before .before .before .before .before in
+    let at-put = c .before .before .before .before .before .before .before .before .before .before .before .before in
     to-send (start-of at-put .pre) (at-put .put .ensures .1 .1 .1)
 
 skip-requires : tie.Need-skip-requires
@@ -95,7 +106,10 @@ pub place-spec : {M : Type 1} → statement M
 place-spec =
     tie.close
     (tie.spec
+    mul-row
+    element-copy-out-row
     put-requires
+    slice-aggregate-send
     send-requires
     skip-requires
     same-length

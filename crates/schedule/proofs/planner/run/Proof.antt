@@ -5,8 +5,7 @@ use mathlib.Core.List.{List}
 use Prim.Native.Nat.{ℕ, _+_, _*_, _-_, _≤_, _<_, max}
 use native.Mathlib.Nat.{le-of-lt}
 use native.Mathlib.Omega.{arith}
-use borrow.Author.Needs.{needs, scaled-fits, below-length}
-use lib.Dec.{lit<}
+use borrow.Author.Needs.{needs, below-length}
 use lib.ListN.{getD}
 use mir.Facts.{fits-below}
 use Rattle.base.specs.Laws.Lists.{zeros-at}
@@ -19,7 +18,7 @@ use Rattle.schedule.specs.InArrays.{InArrays, byNumber, Plannable}
 use Rattle.schedule.specs.Pass.{Room, Tables, ToPlace, Placed, tables, inbox}
 use Rattle.schedule.specs.Laws.Held.{climb, edges-there}
 use Rattle.schedule.specs.Laws.Planner.Invariant.{Invariant, holds-first, holds-last, more-rounds, clock-small, arrivals-room}
-use Rattle.schedule.specs.Laws.Planner.Invariant.{task-small, processor-small, finish-small, to-place, holds-placed, holds-moved}
+use Rattle.schedule.specs.Laws.Planner.Invariant.{task-small, finish-small, to-place, holds-placed, holds-moved}
 use Rattle.schedule.proofs.planner.run.Statement.{statement}
 use Rattle.schedule.proofs.planner.run.Tie as tie
 
@@ -119,9 +118,6 @@ module _ (w : tie.Then1 Inv-loop μ-loop) where
   small : pair .task < 256
   small = task-small (given a) (room a) (a .loop .inv) (remain q) (at-look .look .ensures) in-time
 
-  on-processor : pair .processor < 16
-  on-processor = processor-small (given a) (room a) (a .loop .inv) (remain q) (at-look .look .ensures) in-time
-
   finish-low : pair .start + getD (begun a .args .durations .now) (pair .task) 0 ≤ mostFinish
   finish-low = finish-small (given a) (room a) (a .loop .inv) (remain q) (at-look .look .ensures) in-time
 
@@ -156,45 +152,34 @@ look-requires c κs =
       (Y .busy-size, Y .waiting-size, Y .latest-size, arrivals-room (given a) (room a) Y),
     )
 
-mul-row : tie.Need-mul-row Inv-loop μ-loop
-mul-row c = scaled-fits _ 16 64 (on-processor c) (lit< tt)
-
-array-copy-out-row : tie.Need-array-copy-out-row Inv-loop μ-loop
-array-copy-out-row c = on-processor c
-
 slice-aggregate-finish : tie.Need-slice-aggregate-finish Inv-loop μ-loop
-slice-aggregate-finish c = sym (edge-runs (a (c .before .before)) .size)
+slice-aggregate-finish c = sym (edge-runs (a (c .before)) .size)
 
 finish-requires : tie.Need-finish-requires Inv-loop μ-loop
 finish-requires c κs =
-    let w = c .before .before in
+    let w = c .before in
     let there = below-length ℕ (begun (a w) .args .durations .now) _ 256 (given (a w) .durations-size) (small w) in
     ((there, small w, edge-runs (a w) .size), finish-low w)
 
 slice-aggregate-place : tie.Need-slice-aggregate-place Inv-loop μ-loop
 slice-aggregate-place c =
-    let w = c .before .before .before .before in
-    sym (given (a w) .row-size (pair w .processor) (on-processor w))
+    let w = c .before .before .before .before .before .before .before in
+    sym (a w .loop .inv .waiting-size)
 
 slice-aggregate-place-2 : tie.Need-slice-aggregate-place-2 Inv-loop μ-loop
 slice-aggregate-place-2 c =
     let w = c .before .before .before .before .before .before .before .before in
-    sym (a w .loop .inv .waiting-size)
+    sym (a w .loop .inv .latest-size)
 
 slice-aggregate-place-3 : tie.Need-slice-aggregate-place-3 Inv-loop μ-loop
 slice-aggregate-place-3 c =
     let w = c .before .before .before .before .before .before .before .before .before in
-    sym (a w .loop .inv .latest-size)
-
-slice-aggregate-place-4 : tie.Need-slice-aggregate-place-4 Inv-loop μ-loop
-slice-aggregate-place-4 c =
-    let w = c .before .before .before .before .before .before .before .before .before .before in
     sym (a w .loop .inv .busy-size)
 
 place-requires : tie.Need-place-requires Inv-loop μ-loop
 place-requires c κs =
     let at-finish = c .before .before .before .before .before .before .before in
-    let w = at-finish .before .before .before in
+    let w = at-finish .before .before in
     let a = a w in
     let done = at-finish .finish .ensures in
     asked-of (done .1 .0) (done .1 .1)
@@ -220,19 +205,19 @@ loop-again c =
     let found = looked .look .ensures in
     let runs = edge-runs a in
     ⊎-elim
-    (λ w. let done = w .3 .ensures in
-    let kept = w .11 .kept .1 .1 .1 .1 .1 .1 .1 .1 .1 .1 .1 .1 in
+    (λ w. let done = w .2 .ensures in
+    let kept = w .10 .kept .1 .1 .1 .1 .1 .1 .1 .1 .1 .1 .1 .1 in
     carried
     (holds-placed (given a) (room a) (a .loop .inv) (remain q) found (omega (arith, w .0 .taken)) runs (done .0)
-    (placed-of (done .1 .0) (done .1 .1) (w .11 .ensures)) (later _ _ (w .22 .taken)) (kept .0) (kept .1 .0) (kept .1 .1 .0))
-    (w .23) (w .24) (w .25) (w .26) (w .27) (w .28) (w .29) (w .30) (w .31))
+    (placed-of (done .1 .0) (done .1 .1) (w .10 .ensures)) (later _ _ (w .21 .taken)) (kept .0) (kept .1 .0) (kept .1 .1 .0))
+    (w .22) (w .23) (w .24) (w .25) (w .26) (w .27) (w .28) (w .29) (w .30))
     (⊎-elim
-    (λ w. let done = w .3 .ensures in
-    let kept = w .11 .kept .1 .1 .1 .1 .1 .1 .1 .1 .1 .1 .1 .1 in
+    (λ w. let done = w .2 .ensures in
+    let kept = w .10 .kept .1 .1 .1 .1 .1 .1 .1 .1 .1 .1 .1 .1 in
     carried
     (holds-placed (given a) (room a) (a .loop .inv) (remain q) found (omega (arith, w .0 .taken)) runs (done .0)
-    (placed-of (done .1 .0) (done .1 .1) (w .11 .ensures)) (not-later _ _ (w .22 .left)) (kept .0) (kept .1 .0) (kept .1 .1 .0))
-    (w .23) (w .24) (w .25) (w .26) (w .27) (w .28) (w .29) (w .30) (w .31))
+    (placed-of (done .1 .0) (done .1 .1) (w .10 .ensures)) (not-later _ _ (w .21 .left)) (kept .0) (kept .1 .0) (kept .1 .1 .0))
+    (w .22) (w .23) (w .24) (w .25) (w .26) (w .27) (w .28) (w .29) (w .30))
     (λ w. carried (holds-moved (given a) (room a) (a .loop .inv) (remain q) found (omega (arith, w .0 .left)))
     (w .1) (w .2) (w .3) (w .4) (w .5) (w .6) (w .7) (w .8) (w .9)))
     (c .if1 .came)
@@ -262,14 +247,11 @@ run-spec =
     slice-aggregate-look-2
     slice-aggregate-look-3
     look-requires
-    mul-row
-    array-copy-out-row
     slice-aggregate-finish
     finish-requires
     slice-aggregate-place
     slice-aggregate-place-2
     slice-aggregate-place-3
-    slice-aggregate-place-4
     place-requires
     add-rounds
     loop-less
