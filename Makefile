@@ -2,7 +2,7 @@
 # make page JOB=FILE plans a job file, and prints the page of its plan for the cabinet door
 # make test          everything, from nothing: tests/gate
 # make check         proves what has changed, and runs the programs
-# make bench         times reader, writer, planners, checker, cover call and page against plain Rust ones, and measures the stack
+# make bench         times reader, writer, square, planners, checker, cover call and page against plain Rust, and measures the stack
 # make host          runs the C host over the static library, and the README's example
 # make differential  holds library and program to the reference planner on random jobs and plans: SEED=.. JOBS=..
 # make examples      holds the examples and the tools for them to the reference planner

@@ -1,4 +1,4 @@
-// Link costs (document 01, "Link costs"; document 02, §1 and §5): what one message takes from each processor to each other one, as a square.
+// Link costs (document 01, "Link costs"; document 02, §1 and §5): what one message takes from each processor to each other, as a square.
 // The call asks nothing of its caller: of more processors than sixteen the first sixteen have a place in the square.
 use job::Platform;
 ghost use mathlib.Core.Path.{_≡_};

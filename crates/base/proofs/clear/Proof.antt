@@ -48,7 +48,8 @@ same-length c = search needs
 returns : tie.Need-returns Inv-loop μ-loop
 returns c =
     let at-loop = c .before in
-    let e : at-loop .loop .x ≡ min (at-loop .before .before .before .args .places) (length (at-loop .before .before .before .args .slice .now)) = omega arith in
+    let args = at-loop .before .before .before .args in
+    let e : at-loop .loop .x ≡ min (args .places) (length (args .slice .now)) = omega arith in
     rw e at (at-loop .loop .inv .3)
 
 pub clear-spec : {M : Type 1} → statement M
