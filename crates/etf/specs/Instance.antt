@@ -18,6 +18,10 @@ pub record Instance : Type 0 where
   pub cost : ℕ → ℕ → ℕ
   pub order : List ℕ
 
+-- the same instance, its tasks by another priority
+unfoldable pub ordered : List ℕ → Instance → Instance
+ordered order I = record { processors = I .processors; durations = I .durations; edges = I .edges; cost = I .cost; order = order }
+
 module _ (I : Instance) where
   -- the number of tasks (01: m)
   abbrev pub tasks : ℕ
@@ -30,6 +34,10 @@ module _ (I : Instance) where
   -- the edges from the predecessors of task T
   unfoldable pub into : ℕ → List Edge
   into T = filter (λ e. eqb (e .to) T) (I .edges)
+
+  -- the edges to the successors of task T
+  unfoldable pub outOf : ℕ → List Edge
+  outOf T = filter (λ e. eqb (e .from) T) (I .edges)
 
   -- the time of an edge's messages from processor p to q
   -- (01: "A message bundle takes its count times the cost from the sender's board to the receiver's")

@@ -17,3 +17,8 @@ pub mod Times
 pub mod Costs
 pub mod Results
 pub mod OfJob
+pub mod Order
+pub mod Ordered
+pub mod Inserted
+pub mod Weight
+pub mod Choice

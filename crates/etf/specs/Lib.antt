@@ -7,6 +7,7 @@ pub mod Cover
 pub mod Dearest
 pub mod Checker
 pub mod Ideal
+pub mod Weight
 pub mod OfJob
 pub mod Bounds
 -- what holds of them
@@ -17,6 +18,9 @@ pub mod Walks
 pub mod Chains
 pub mod WorstCase
 pub mod Results
+pub mod Priority
+pub mod Weights
+pub mod Choices
 pub mod Jobs
 pub mod ChainJob
 -- the proofs

@@ -4,7 +4,8 @@ use Prim.Native.Nat.{ℕ}
 use lib.ListN.{length}
 use Rattle.base.specs.Lists.{upto}
 use Rattle.job.specs.Job.{wireCost, resultCount, Job}
-use Rattle.etf.specs.Instance.{Instance}
+use Rattle.etf.specs.Instance.{Instance, ordered}
+use Rattle.etf.specs.Weight.{byWeight}
 use Rattle.etf.specs.Topology.{cost, entry, square}
 
 -- what one message of a job takes from p to q
@@ -24,6 +25,10 @@ instance j = record {
   cost = entry (costsOf j);
   order = upto (length (j .tasks));
 }
+
+-- the same with the tasks by weight (02 §6: "breaks ties in start by greater weight, then lower step number")
+unfoldable pub instanceByWeight : Job → Instance
+instanceByWeight j = ordered (byWeight (instance j)) (instance j)
 
 -- the counts of a job's results by task
 abbrev pub resultOf : Job → ℕ → ℕ
