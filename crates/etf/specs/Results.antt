@@ -6,7 +6,7 @@ use native.Mathlib.Omega.{arith}
 use native.Mathlib.Nat.{mul-le-mul-left}
 use Rattle.base.specs.Lists.{_∈_, upto, greatest}
 use Rattle.job.specs.Job.{Result, resultCount, RiseByTask}
-use Rattle.etf.specs.Instance.{Instance, WellFormed, tasks, duration}
+use Rattle.etf.specs.Instance.{Instance, ordered, WellFormed, tasks, duration}
 use Rattle.etf.specs.Schedule.{Placement, placementOf, finish, lastFinish, end, dearestResult}
 use Rattle.etf.specs.Rule.{planned}
 use Rattle.etf.specs.Cover.{Walk, FinishesLast, cover}
@@ -16,6 +16,7 @@ use Rattle.etf.specs.WorstCase.{Within}
 use Rattle.etf.specs.WorstCase
 use Rattle.etf.specs.Laws.Planned.{sound-plan, home}
 use Rattle.etf.specs.Laws.Ticks.{placement-once}
+use Rattle.etf.specs.Laws.Ordered.{ideal-ordered, makespan-ordered}
 use Rattle.etf.specs.Laws.Results
 
 -- ---- the end of any schedule, whole or begun
@@ -91,3 +92,12 @@ module _ (I : Instance) (W : WellFormed I) where
   pub planned-without : (result : ℕ → ℕ) → ((T : ℕ) → T < tasks I → result T ≡ 0)
       → (end I result (planned I) ≡ lastFinish I (planned I)) × (dearestResult I result (planned I) ≡ 0)
   planned-without result none = without I result (planned I) (λ u h. none (u .task) (sound-plan I W .in-range u h .0))
+
+-- 02 §6: "The distance from the rival is shown over an arbitrary priority order": E, C, R and D are those of the planner with that order; F is
+-- of any ideal schedule of the instance, which knows of none
+pub any-order-within : (I : Instance) (order : List ℕ) → WellFormed (ordered order I) → (result : ℕ → ℕ) (S : Ideal I)
+    → WithinResults (I .processors) (end (ordered order I) result (planned (ordered order I))) (makespan I S) (cover (ordered order I))
+    (dearestResult (ordered order I) result (planned (ordered order I))) (dearest (ordered order I))
+unfolding ordered
+any-order-within I order W result S =
+    rw (makespan-ordered I order S) at (within (ordered order I) W result (ideal-ordered I order S))

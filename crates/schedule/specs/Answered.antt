@@ -12,9 +12,9 @@ use Rattle.base.specs.Laws.Tests.{le-or-lt}
 use Rattle.job.specs.Job.{Job}
 use Rattle.job.specs.Read.{Answer, accepted, refused, readJob}
 use Rattle.job.specs.Refusal.{read-numbers}
-use Rattle.etf.specs.Instance.{tasks}
+use Rattle.etf.specs.Instance.{Instance, tasks}
 use Rattle.etf.specs.OfJob.{instance}
-use Rattle.schedule.specs.Call.{Call, called, arrivalPlaces, laidOut, planFor, tooShort, CallNumber, callFor}
+use Rattle.schedule.specs.Call.{Call, called, arrivalPlaces, laidOut, planBy, tooShort, CallNumber, callFor}
 use Rattle.schedule.specs.Lent.{ShortFor, RoomFor}
 
 -- ---- room in the slices, and the definition's test of it
@@ -150,7 +150,7 @@ module _ (places : ℕ) (file starts processors scratch : List ℕ) where
           call-is = taken-by (j, e, f);
         }
 
--- ---- a call that asks for the planner's places and lays the plan out
+-- ---- a call that asks for the planner's places and lays the plan out, by the tie rule of `by`
 
 module _ (file starts processors scratch : List ℕ) where
   abbrev pub SlicesRefused : ℕ → Type 0
@@ -162,38 +162,38 @@ module _ (file starts processors scratch : List ℕ) where
   pub slices : ((k : ℕ) × SlicesRefused k) ⊎ SlicesTaken
   slices = slices-for arrivalPlaces file starts processors scratch
 
-  module _ {A : Type 0} (refuse : ℕ → A) (answer : Job → A) where
+  module _ {A : Type 0} (by : Job → Instance) (refuse : ℕ → A) (answer : Job → A) where
     abbrev pub callOf : Call A
-    callOf = callFor arrivalPlaces refuse (planFor answer) (readJob file) starts processors scratch
+    callOf = callFor arrivalPlaces refuse (planBy by answer) (readJob file) starts processors scratch
 
-    pub laid-answer : (j : Job) → planFor answer j starts processors scratch .answer ≡ answer j
+    pub laid-answer : (j : Job) → planBy by answer j starts processors scratch .answer ≡ answer j
     unfolding laidOut
     laid-answer j = refl
 
     pub call-refused : (k : ℕ) → SlicesRefused k → callOf ≡ called (refuse k) starts processors scratch
-    call-refused = refused-by arrivalPlaces file starts processors scratch refuse answer (planFor answer) laid-answer
+    call-refused = refused-by arrivalPlaces file starts processors scratch refuse answer (planBy by answer) laid-answer
 
     pub call-number : (k : ℕ) → SlicesRefused k → callOf .answer ≡ refuse k
-    call-number = number-by arrivalPlaces file starts processors scratch refuse answer (planFor answer) laid-answer
+    call-number = number-by arrivalPlaces file starts processors scratch refuse answer (planBy by answer) laid-answer
 
-    pub call-taken : (a : SlicesTaken) → callOf ≡ planFor answer (a .0) starts processors scratch
-    call-taken = taken-by arrivalPlaces file starts processors scratch refuse answer (planFor answer) laid-answer
+    pub call-taken : (a : SlicesTaken) → callOf ≡ planBy by answer (a .0) starts processors scratch
+    call-taken = taken-by arrivalPlaces file starts processors scratch refuse answer (planBy by answer) laid-answer
 
     pub call-answer : (a : SlicesTaken) → callOf .answer ≡ answer (a .0)
-    call-answer = answer-by arrivalPlaces file starts processors scratch refuse answer (planFor answer) laid-answer
+    call-answer = answer-by arrivalPlaces file starts processors scratch refuse answer (planBy by answer) laid-answer
 
     pub call-answered : SlicesTaken ⊎ ((k : ℕ) × (callOf .answer ≡ refuse k) × CallNumber k)
-    call-answered = answered-by arrivalPlaces file starts processors scratch refuse answer (planFor answer) laid-answer
+    call-answered = answered-by arrivalPlaces file starts processors scratch refuse answer (planBy by answer) laid-answer
 
     pub call-cause : (one : (i k : ℕ) → refuse i ≡ refuse k → i ≡ k) (apart : (k : ℕ) (j : Job) → ¬ (refuse k ≡ answer j))
         → (k : ℕ) → callOf .answer ≡ refuse k → SlicesRefused k
-    call-cause = cause-by arrivalPlaces file starts processors scratch refuse answer (planFor answer) laid-answer
+    call-cause = cause-by arrivalPlaces file starts processors scratch refuse answer (planBy by answer) laid-answer
 
     abbrev pub Accepted : A → Type 0
-    Accepted = AcceptedBy arrivalPlaces file starts processors scratch refuse answer (planFor answer) laid-answer
+    Accepted = AcceptedBy arrivalPlaces file starts processors scratch refuse answer (planBy by answer) laid-answer
 
     pub accepted-as : (a : A) → ((k : ℕ) → ¬ (a ≡ refuse k)) → callOf .answer ≡ a → Accepted a
-    accepted-as = accepted-by arrivalPlaces file starts processors scratch refuse answer (planFor answer) laid-answer
+    accepted-as = accepted-by arrivalPlaces file starts processors scratch refuse answer (planBy by answer) laid-answer
 
 -- two answers to one file are about one job
 pub one-job : {a : Answer} {i j : Job} → a ≡ accepted i → a ≡ accepted j → i ≡ j

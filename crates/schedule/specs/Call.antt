@@ -49,9 +49,9 @@ laidOut answer I starts processors scratch =
     called answer
     (filled (startOf I) (tasks I) starts) (filled (processorOf I) (tasks I) processors) (filled (scratchAt I) arrivalPlaces scratch)
 
--- the planner's schedule of a job laid out in the slices, and an answer about the job
-abbrev pub planFor : {A : Type 0} → (Job → A) → Job → List ℕ → List ℕ → List ℕ → Call A
-planFor answer j = laidOut (answer j) (instance j)
+-- the planner's schedule of a job laid out in the slices, and an answer about the job; `by` is the job's instance, with its tie rule
+abbrev pub planBy : {A : Type 0} → (Job → Instance) → (Job → A) → Job → List ℕ → List ℕ → List ℕ → Call A
+planBy by answer j = laidOut (answer j) (by j)
 
 -- 01: 9, "a lent slice too short": fewer than m starts, m processors or so many places of scratch
 unfoldable pub tooShort : ℕ → ℕ → List ℕ → List ℕ → List ℕ → Bool

@@ -21,7 +21,7 @@ use Rattle.schedule.specs.declared.Outcome.{Outcome}
 use Rattle.schedule.specs.declared.Planned.{Planned}
 use Rattle.schedule.specs.declared.Planned.the-variants.{Plan, Refused}
 use Rattle.schedule.specs.declared.Checked.the-variants.{Yes}
-use Rattle.schedule.specs.Call.{Call, called, arrivalPlaces, laidOut, planFor, tooShort, CallNumber, callFor}
+use Rattle.schedule.specs.Call.{Call, called, arrivalPlaces, laidOut, planBy, tooShort, CallNumber, callFor}
 use Rattle.schedule.specs.Plan.{outcome, planCall}
 use Rattle.schedule.specs.Small.{smallPlaces, laidSmall, smallCall}
 use Rattle.schedule.specs.Check.{checkCall}
@@ -121,17 +121,17 @@ pub record SameAs (x y : Call Planned) : Type 0 where
 -- the file is and the other slices are
 pub same-plan : (file starts processors scratch larger : List ℕ) → smallPlaces ≤ length scratch → arrivalPlaces ≤ length larger
     → SameAs (smallCall file starts processors scratch) (planCall file starts processors larger)
-unfolding smallCall planCall callFor tooShort laidSmall laidOut
+unfolding smallCall planCallBy callFor tooShort laidSmall laidOut
 same-plan file starts processors scratch larger a b = go (readJob file)
   where
     held : (j : Job) (t : Bool)
         → SameAs (pick t (called (Refused 9) starts processors scratch) (smallAccept j starts processors scratch))
-        (pick t (called (Refused 9) starts processors larger) (planFor smallAnswer j starts processors larger))
+        (pick t (called (Refused 9) starts processors larger) (planBy instance smallAnswer j starts processors larger))
     held j true = record { answers = refl; starts-are = refl; processors-are = refl }
     held j false = record { answers = refl; starts-are = refl; processors-are = refl }
 
     go : (x : Answer) → SameAs (callFor smallPlaces Refused smallAccept x starts processors scratch)
-        (callFor arrivalPlaces Refused (planFor smallAnswer) x starts processors larger)
+        (callFor arrivalPlaces Refused (planBy instance smallAnswer) x starts processors larger)
     go (refused k) = record { answers = refl; starts-are = refl; processors-are = refl }
     go (accepted j) =
         simp (le-ltb (length scratch) smallPlaces a, le-ltb (length larger) arrivalPlaces b)
