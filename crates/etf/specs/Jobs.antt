@@ -93,7 +93,7 @@ module _ {by : Job → Instance} (rule : TieRule by) (j : Job) (a : Accepted j) 
   well-formed = rw (rule .is-by j) (ordered-well (instance j) (rule .order j) (of-job j a) (rule .has-all j) (rule .has-only j))
 
   -- its tasks, edges and costs are the job's
-  same-tasks : tasks I ≡ length (j .tasks)
+  pub same-tasks : tasks I ≡ length (j .tasks)
   unfolding ordered instance
   same-tasks = rw (rule .is-by j)
 

@@ -15,9 +15,9 @@ use Rattle.schedule.specs.declared.Planned.the-variants.{Plan, Refused}
 use Rattle.schedule.specs.declared.Covered.the-variants.{Cover, Refused as NotCovered}
 use Rattle.schedule.specs.declared.Checked.the-variants.{Yes, Refused as NotChecked}
 use Rattle.schedule.specs.Call.{called, startOf, processorOf, scratchAt, laidOut, tooShort, callFor}
-use Rattle.schedule.specs.Plan.{endOf, outcome, planCall}
+use Rattle.schedule.specs.Plan.{endBy, outcomeBy, planCallBy, planCall}
 use Rattle.schedule.specs.Small.{laidSmall, smallCall}
-use Rattle.schedule.specs.Cover.{figures, coverCall}
+use Rattle.schedule.specs.Cover.{figures, coverCallBy, coverCall}
 use Rattle.schedule.specs.Check.{checkOf, checkedAs, checkFor, checkCall}
 
 -- a rack of two boards, flat, c = 2, and steps of so many ticks
@@ -75,6 +75,6 @@ pub cases-hold :
     × (checkCall apart (0 ∷ []) (0 ∷ 1 ∷ []) ≡ NotChecked 9)
     × (checkCall apart (0 ∷ 0 ∷ []) (0 ∷ []) ≡ NotChecked 9)
     × (checkCall apart (0 ∷ 5 ∷ 0 ∷ []) (0 ∷ 0 ∷ 99 ∷ []) ≡ Yes)
-unfolding planCall smallCall laidSmall outcome endOf coverCall figures callFor laidOut tooShort filled scratchAt checkCall checkFor
+unfolding planCallBy smallCall laidSmall outcomeBy endBy coverCallBy figures callFor laidOut tooShort filled scratchAt checkCall checkFor
     checkedAs checkOf startOf processorOf computed answer
 cases-hold = (refl, refl, refl, refl, refl, refl, refl, refl, refl, refl, refl, refl, refl, refl, refl, refl, refl, refl, refl)

@@ -25,6 +25,20 @@ pub record InArrays : Type 0 where
   pub costs : List (List ℕ)
   pub order : ℕ → ℕ
 
+-- the same arrays, the tasks in another order
+abbrev pub reordered : (ℕ → ℕ) → InArrays → InArrays
+reordered order A = record {
+  processors = A .processors;
+  tasks = A .tasks;
+  edges = A .edges;
+  durations = A .durations;
+  from = A .from;
+  to = A .to;
+  counts = A .counts;
+  costs = A .costs;
+  order = order;
+}
+
 -- with the tasks by number (01: "ties go to the lowest step number")
 abbrev pub byNumber : ℕ → ℕ → ℕ → List ℕ → List ℕ → List ℕ → List ℕ → List (List ℕ) → InArrays
 byNumber n m l durations from to counts costs = record {

@@ -17,12 +17,13 @@ use Rattle.job.specs.Read.{Answer, accepted, refused, readJob}
 use Rattle.job.specs.Accepted.{accepted-job}
 use Rattle.etf.specs.Instance.{tasks}
 use Rattle.etf.specs.OfJob.{instance}
+use Rattle.etf.specs.Jobs.{by-number}
 use Rattle.schedule.specs.declared.Outcome.{Outcome}
 use Rattle.schedule.specs.declared.Planned.{Planned}
 use Rattle.schedule.specs.declared.Planned.the-variants.{Plan, Refused}
 use Rattle.schedule.specs.declared.Checked.the-variants.{Yes}
 use Rattle.schedule.specs.Call.{Call, called, arrivalPlaces, laidOut, planBy, tooShort, CallNumber, callFor}
-use Rattle.schedule.specs.Plan.{outcome, planCall}
+use Rattle.schedule.specs.Plan.{outcome, planCall, planCallBy}
 use Rattle.schedule.specs.Small.{smallPlaces, laidSmall, smallCall}
 use Rattle.schedule.specs.Check.{checkCall}
 use Rattle.schedule.specs.Answered.{RefusedFor, TakenFor, refused-by, number-by, answer-by, answered-by, cause-by}
@@ -106,7 +107,7 @@ module _ (file starts processors scratch : List ℕ) where
     small-accepted =
         let P = small-planned o h in
         rw (P .call-is, P .says)
-        (filled-yes (P .job) (accepted-job file (P .job) (P .says)) starts processors
+        (filled-yes by-number (P .job) (accepted-job file (P .job) (P .says)) starts processors
         (P .has-room .for-starts) (P .has-room .for-processors))
 
 -- ---- and beside the larger entry's

@@ -23,7 +23,8 @@ use Rattle.etf.specs.Dearest.{dearest}
 use Rattle.etf.specs.Checker.{Because, no-processor, too-late, overlaps, too-early}
 use Rattle.etf.specs.Verdict.{number-only}
 use Rattle.etf.specs.Rule.{planned}
-use Rattle.etf.specs.OfJob.{instance, resultOf}
+use Rattle.etf.specs.OfJob.{instance, TieRule, resultOf}
+use Rattle.etf.specs.Jobs.{same-tasks}
 use Rattle.schedule.specs.declared.Checked.{Checked}
 use Rattle.schedule.specs.declared.Judged.{Judged}
 use Rattle.schedule.specs.declared.Checked.the-variants.{Yes, Refused as NotChecked}
@@ -33,8 +34,8 @@ use Rattle.schedule.specs.declared.Covered.the-variants.{Cover}
 use Rattle.schedule.specs.declared.Laid.{Laid}
 use Rattle.schedule.specs.declared.Laid.the-variants.{Last, Short}
 use Rattle.schedule.specs.InArrays.{InArrays, instanceIn, Plannable}
-use Rattle.schedule.specs.Call.{Call, called, startOf, processorOf, scratchAt, arrivalPlaces, laidOut, planFor, tooShort, callFor}
-use Rattle.schedule.specs.Plan.{lastOf, endOf, outcome}
+use Rattle.schedule.specs.Call.{Call, called, startOf, processorOf, scratchAt, arrivalPlaces, laidOut, planBy, tooShort, callFor}
+use Rattle.schedule.specs.Plan.{lastOf, endBy, outcomeBy}
 use Rattle.schedule.specs.Cover.{figures}
 use Rattle.schedule.specs.Check.{checkOf, checkedAs, numberOf, checkFor, checkCall, judgeCall}
 use Rattle.schedule.specs.Pass.{said, Room, shortOf, runCall, layCall}
@@ -218,59 +219,66 @@ module _ (H : Instance) (m : ℕ) (starts processors : List ℕ) where
 -- ---- an accepted file
 
 module _ {file : List ℕ} {x : Reading} {m l : ℕ} (K : Read file x m l) where
-  abbrev J : Instance
-  J = instance (K .job)
-
-  tasks-is : tasks J ≡ m
+  tasks-is : tasks (instance (K .job)) ≡ m
   unfolding instance
   tasks-is = K .tasks-are
 
-  -- the planner's answer, by the end that was found of the instance that was held in arrays
-  pub planned-right : {H : Instance} {e : ℕ} → H ≡ J → e ≡ end H (resultOf (K .job)) (planned H)
-      → Plan (record { tasks = m; end = e }) ≡ Plan (outcome (K .job))
-  unfolding outcome endOf
-  planned-right same e-is = rw (e-is, same, tasks-is)
+  -- the checker's answer, by what is said of the plan in the slices
+  pub check-said : {H : Instance} → H ≡ instance (K .job) → (starts processors : List ℕ) {c : Checked} → c ≡ said H m starts processors
+      → c ≡ checkCall file starts processors
+  unfolding checkCall checkFor said
+  check-said same starts processors g =
+      g ∙ rw (K .says, same, tasks-is)
 
-  -- the instance that was held in arrays
-  module _ {H : Instance} (same : H ≡ J) where
-    -- a call that lays the plan out, whatever it answers: 9 for a slice that is too short, or its answer about the job
-    module _ {R : Type 0} (refuse : ℕ → R) (answer : Job → R)
-        (starts processors scratch : List ℕ) {starts′ processors′ scratch′ : List ℕ} where
-      pub call-short : {laid : Laid} → laid ≡ Short → called laid starts′ processors′ scratch′ ≡ layCall H starts processors scratch
-          → called (refuse 9) starts′ processors′ scratch′
-          ≡ callFor arrivalPlaces refuse (planFor answer) (readJob file) starts processors scratch
-      unfolding callFor layCall laidOut
-      call-short is e = rw (K .says) (go (tooShort arrivalPlaces (tasks J) starts processors scratch) (rw (is, same) at e))
-        where
-          go : (b : Bool)
-              → called Short starts′ processors′ scratch′
-              ≡ pick b (called Short starts processors scratch) (laidOut (Last (lastOf J)) J starts processors scratch)
-              → called (refuse 9) starts′ processors′ scratch′
-              ≡ pick b (called (refuse 9) starts processors scratch) (planFor answer (K .job) starts processors scratch)
-          go true h = ap (λ (c : Call Laid). called (refuse 9) (c .starts) (c .processors) (c .scratch)) h
-          go false h = clash (ap (λ (c : Call Laid). c .answer) h)
+  -- a planner's call, by any tie rule
+  module _ {by : Job → Instance} (rule : TieRule by) where
+    abbrev J : Instance
+    J = by (K .job)
 
-      pub call-end : {laid : Laid} {e : ℕ} {r : R} → laid ≡ Last e
-          → called laid starts′ processors′ scratch′ ≡ layCall H starts processors scratch
-          → (e ≡ lastOf J → r ≡ answer (K .job))
-          → called r starts′ processors′ scratch′ ≡ callFor arrivalPlaces refuse (planFor answer) (readJob file) starts processors scratch
-      unfolding callFor layCall laidOut
-      call-end {laid} {e} {r} is w right =
-          rw (K .says) (go (tooShort arrivalPlaces (tasks J) starts processors scratch) (rw (is, same) at w))
-        where
-          go : (b : Bool)
-              → called (Last e) starts′ processors′ scratch′
-              ≡ pick b (called Short starts processors scratch) (laidOut (Last (lastOf J)) J starts processors scratch)
-              → called r starts′ processors′ scratch′
-              ≡ pick b (called (refuse 9) starts processors scratch) (planFor answer (K .job) starts processors scratch)
-          go true h = clash (sym (ap (λ (c : Call Laid). c .answer) h))
-          go false h =
-              ap (λ (c : Call Laid). called r (c .starts) (c .processors) (c .scratch)) h
-              ∙ ap (λ (a : R). called a (filled (startOf J) (tasks J) starts) (filled (processorOf J) (tasks J) processors)
-              (filled (scratchAt J) arrivalPlaces scratch)) (right (same-end (ap (λ (c : Call Laid). c .answer) h)))
+    many : tasks J ≡ tasks (instance (K .job))
+    unfolding instance
+    many = same-tasks rule (K .job) (K .sound)
 
-    -- the checker's answer, by what is said of the plan in the slices
-    pub check-said : (starts processors : List ℕ) {c : Checked} → c ≡ said H m starts processors → c ≡ checkCall file starts processors
-    unfolding checkCall checkFor said
-    check-said starts processors g =
-        g ∙ rw (K .says, same, tasks-is)
+    -- the planner's answer, by the end that was found of the instance that was held in arrays
+    pub planned-right : {H : Instance} {e : ℕ} → H ≡ J → e ≡ end H (resultOf (K .job)) (planned H)
+        → Plan (record { tasks = m; end = e }) ≡ Plan (outcomeBy by (K .job))
+    unfolding outcomeBy endBy
+    planned-right same e-is = rw (e-is, same, tasks-is)
+
+    -- the instance that was held in arrays
+    module _ {H : Instance} (same : H ≡ J) where
+      -- a call that lays the plan out, whatever it answers: 9 for a slice that is too short, or its answer about the job
+      module _ {R : Type 0} (refuse : ℕ → R) (answer : Job → R)
+          (starts processors scratch : List ℕ) {starts′ processors′ scratch′ : List ℕ} where
+        pub call-short : {laid : Laid} → laid ≡ Short → called laid starts′ processors′ scratch′ ≡ layCall H starts processors scratch
+            → called (refuse 9) starts′ processors′ scratch′
+            ≡ callFor arrivalPlaces refuse (planBy by answer) (readJob file) starts processors scratch
+        unfolding callFor layCall laidOut
+        call-short is e = rw (K .says, ← many) (go (tooShort arrivalPlaces (tasks J) starts processors scratch) (rw (is, same) at e))
+          where
+            go : (b : Bool)
+                → called Short starts′ processors′ scratch′
+                ≡ pick b (called Short starts processors scratch) (laidOut (Last (lastOf J)) J starts processors scratch)
+                → called (refuse 9) starts′ processors′ scratch′
+                ≡ pick b (called (refuse 9) starts processors scratch) (planBy by answer (K .job) starts processors scratch)
+            go true h = ap (λ (c : Call Laid). called (refuse 9) (c .starts) (c .processors) (c .scratch)) h
+            go false h = clash (ap (λ (c : Call Laid). c .answer) h)
+
+        pub call-end : {laid : Laid} {e : ℕ} {r : R} → laid ≡ Last e
+            → called laid starts′ processors′ scratch′ ≡ layCall H starts processors scratch
+            → (e ≡ lastOf J → r ≡ answer (K .job))
+            → called r starts′ processors′ scratch′ ≡ callFor arrivalPlaces refuse (planBy by answer) (readJob file) starts processors scratch
+        unfolding callFor layCall laidOut
+        call-end {laid} {e} {r} is w right =
+            rw (K .says, ← many) (go (tooShort arrivalPlaces (tasks J) starts processors scratch) (rw (is, same) at w))
+          where
+            go : (b : Bool)
+                → called (Last e) starts′ processors′ scratch′
+                ≡ pick b (called Short starts processors scratch) (laidOut (Last (lastOf J)) J starts processors scratch)
+                → called r starts′ processors′ scratch′
+                ≡ pick b (called (refuse 9) starts processors scratch) (planBy by answer (K .job) starts processors scratch)
+            go true h = clash (sym (ap (λ (c : Call Laid). c .answer) h))
+            go false h =
+                ap (λ (c : Call Laid). called r (c .starts) (c .processors) (c .scratch)) h
+                ∙ ap (λ (a : R). called a (filled (startOf J) (tasks J) starts) (filled (processorOf J) (tasks J) processors)
+                (filled (scratchAt J) arrivalPlaces scratch)) (right (same-end (ap (λ (c : Call Laid). c .answer) h)))
