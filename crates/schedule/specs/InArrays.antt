@@ -53,6 +53,10 @@ byNumber n m l durations from to counts costs = record {
   order = λ i. i;
 }
 
+-- with the tasks in the order of an array
+abbrev pub inOrder : List ℕ → ℕ → ℕ → ℕ → List ℕ → List ℕ → List ℕ → List ℕ → List (List ℕ) → InArrays
+inOrder order n m l durations from to counts costs = reordered (λ i. getD order i 0) (byNumber n m l durations from to counts costs)
+
 -- the instance that arrays hold; spare places are not read
 unfoldable pub instanceIn : InArrays → Instance
 instanceIn A = record {

@@ -81,6 +81,11 @@ placedMark = 65535
 unfoldable pub canStart : ℕ → List ℕ → List ℕ → ℕ → Bool
 canStart clock waiting latest T = eqb (getD waiting T 0) 0 && leb (getD latest T 0) clock
 
+-- an array of tasks has m places, and each task in them is below 256
+pub record OrderIn (m : ℕ) (order : List ℕ) : Type 0 where
+  pub places : m ≤ length order
+  pub below : (i : ℕ) → i < m → getD order i 0 < 256
+
 -- the search over k places of the order, from place i on, with b the best so far
 unfoldable pub searched : ℕ → List ℕ → List ℕ → (ℕ → ℕ) → (ℕ → List Pair) → ℕ → ℕ → Pair → Pair
 searched clock waiting latest order row i zero b = b

@@ -4,9 +4,9 @@ ghost use Prim.Native.Nat.{ℕ, _+_, _*_, _-_, _≤_, _<_};
 ghost use mathlib.Core.List.{[]};
 ghost use lib.ListN.{length, getD, set};
 ghost use Rattle.etf.specs.Bounds.{mostMessageTime, mostFinish};
-ghost use Rattle.schedule.specs.InArrays.{byNumber, instanceIn, Plannable};
+ghost use Rattle.schedule.specs.InArrays.{inOrder, instanceIn, Plannable};
 ghost use Rattle.schedule.specs.Call.{called};
-ghost use Rattle.schedule.specs.Pass.{Surveyed, Raised, ToSend, Sent, Skipped, Looked, ToPlace, Placed, placedMark, Room};
+ghost use Rattle.schedule.specs.Pass.{Surveyed, Raised, ToSend, Sent, OrderIn, Skipped, Looked, ToPlace, Placed, placedMark, Room};
 ghost use Rattle.schedule.specs.Pass.{inbox, tables, firstBest, rowOf, rowBy, noPair, searched, runCall};
 
 // A task, a processor and the start that the task would have there; 4294967295 where there is none.
@@ -112,11 +112,12 @@ fn try_task(
     try_row(task, clock, &arrivals[first..], free, count, leader)
 }
 
-// The first pair of smallest start among the ready tasks from `low` on and the free processors.
+// The first pair of smallest start among the ready tasks from place `low` of the order on and the free processors.
 fn choose(
     clock: u32,
     low: usize,
     tasks: usize,
+    order: &[usize],
     waiting: &[u16],
     latest: &[u32],
     arrivals: &[u32],
@@ -126,7 +127,8 @@ fn choose(
     requires { ⌜ (clock < 4294967295) × (low ≤ tasks) × (tasks ≤ 256) ⌝ }
     requires { ⌜ (length (now waiting) ≡ 256) × (length (now latest) ≡ 256) × (4096 ≤ length (now arrivals)) ⌝ }
     requires { ⌜ (count ≤ length (now free)) × ((i : ℕ) → i < count → getD (now free) i 0 < 16) ⌝ }
-    ensures { λ r. ⌜ r ≡ searched clock (now (waiting .entry)) (now (latest .entry)) (λ i. i)
+    requires { ⌜ OrderIn tasks (now order) ⌝ }
+    ensures { λ r. ⌜ r ≡ searched clock (now (waiting .entry)) (now (latest .entry)) (λ i. getD (now (order .entry)) i 0)
         (rowOf clock (now (arrivals .entry)) (now (free .entry)) count) low (tasks - low) noPair ⌝ }
 {
     let mut best = Pair {
@@ -137,8 +139,9 @@ fn choose(
     if count == 0 {
         return best;
     }
-    let mut t = low;
-    while t < tasks {
+    let mut i = low;
+    while i < tasks {
+        let t = order[i];
         if waiting[t] == 0 {
             if latest[t] <= clock {
                 best = try_task(t, clock, arrivals, free, count, best);
@@ -147,7 +150,7 @@ fn choose(
                 }
             }
         }
-        t += 1;
+        i += 1;
     }
     best
 }
@@ -158,6 +161,7 @@ fn look(
     low: usize,
     tasks: usize,
     n: usize,
+    order: &[usize],
     busy: &[u32],
     waiting: &[u16],
     latest: &[u32],
@@ -165,7 +169,8 @@ fn look(
 ) -> Choice
     requires { ⌜ (n ≤ 16) × (clock < 4294967295) × (low ≤ tasks) × (tasks ≤ 256) ⌝ }
     requires { ⌜ (length (now busy) ≡ 16) × (length (now waiting) ≡ 256) × (length (now latest) ≡ 256) × (4096 ≤ length (now arrivals)) ⌝ }
-    ensures { λ r. ⌜ Looked clock low tasks n (λ i. i)
+    requires { ⌜ OrderIn tasks (now order) ⌝ }
+    ensures { λ r. ⌜ Looked clock low tasks n (λ i. getD (now (order .entry)) i 0)
         (inbox (now (arrivals .entry)) (now (waiting .entry)) (now (latest .entry))) (now (busy .entry)) r ⌝ }
 {
     let mut free = [0usize; 16];
@@ -174,6 +179,7 @@ fn look(
         clock,
         low,
         tasks,
+        order,
         waiting,
         latest,
         arrivals,
@@ -232,17 +238,18 @@ fn send(
     }
 }
 
-// The first task from `low` on that is not placed; 65535 in place of a waiting count marks a placed one.
-pub fn skip(waiting: &[u16], low: usize, tasks: usize) -> usize
-    requires { ⌜ (low ≤ tasks) × (tasks ≤ length (now waiting)) ⌝ }
-    ensures { λ r. ⌜ Skipped (now (waiting .entry)) (λ i. i) low tasks r ⌝ }
+// The first place of the order from `low` on whose task is not placed; 65535 in place of a waiting count marks a placed one.
+fn skip(order: &[usize], waiting: &[u16], low: usize, tasks: usize) -> usize
+    requires { ⌜ (low ≤ tasks) × (length (now waiting) ≡ 256) × OrderIn tasks (now order) ⌝ }
+    ensures { λ r. ⌜ Skipped (now (waiting .entry)) (λ i. getD (now (order .entry)) i 0) low tasks r ⌝ }
 {
-    let mut t = low;
-    while t < tasks {
+    let mut i = low;
+    while i < tasks {
+        let t = order[i];
         if waiting[t] != 65535 {
-            return t;
+            return i;
         }
-        t += 1;
+        i += 1;
     }
     tasks
 }
@@ -288,7 +295,7 @@ pub fn finish(pair: Pair, durations: &[u32], runs: &[u16]) -> Done
     }
 }
 
-// Places a task that finishes at `finish` and sends along its edges; returns the first task that is left.
+// Places a task that finishes at `finish` and sends along its edges; returns the first place of the order that is left.
 fn place(
     pair: Pair,
     finish: u32,
@@ -297,6 +304,7 @@ fn place(
     low: usize,
     tasks: usize,
     n: usize,
+    order: &[usize],
     costs: &[[u32; 16]; 16],
     to: &[u8],
     counts: &[u16],
@@ -309,8 +317,9 @@ fn place(
 ) -> usize
     requires { ⌜ ToPlace pair finish first last low tasks n (getD (now costs) (pair .processor) []) (now to) (now counts)
         (tables (now starts) (now processors) (now busy) (inbox (now arrivals) (now waiting) (now latest))) ⌝ }
-    ensures { λ r. ⌜ Placed pair finish first last low tasks n (λ i. i) (getD (now (costs .entry)) (pair .processor) [])
-        (now (to .entry)) (now (counts .entry))
+    requires { ⌜ OrderIn tasks (now order) ⌝ }
+    ensures { λ r. ⌜ Placed pair finish first last low tasks n (λ i. getD (now (order .entry)) i 0)
+        (getD (now (costs .entry)) (pair .processor) []) (now (to .entry)) (now (counts .entry))
         (tables (now (starts .entry)) (now (processors .entry)) (now (busy .entry))
         (inbox (now (arrivals .entry)) (now (waiting .entry)) (now (latest .entry))))
         (tables (now (starts .exit)) (now (processors .exit)) (now (busy .exit))
@@ -332,14 +341,15 @@ fn place(
         waiting,
         latest,
     );
-    skip(waiting, low, tasks)
+    skip(order, waiting, low, tasks)
 }
 
-// Plans an instance, and returns the last finish. The arrivals begin with 4,096 zeros.
+// Plans an instance, its tasks in the order that is handed in, and returns the last finish. The arrivals begin with 4,096 zeros.
 pub fn run<'a>(
     n: usize,
     tasks: usize,
     edges: usize,
+    order: &'a [usize],
     durations: &'a [u32],
     from: &'a [u8],
     to: &'a [u8],
@@ -349,10 +359,10 @@ pub fn run<'a>(
     processors: &mut [u8],
     arrivals: &mut [u32],
 ) -> u32
-    requires { ⌜ Plannable (byNumber n tasks edges (now durations) (now from) (now to) (now counts) costs) ⌝ }
-    requires { ⌜ Room tasks (now starts) (now processors) (now arrivals) ⌝ }
-    ensures { λ r. ⌜ called r (now (starts .exit)) (now (processors .exit)) (now (arrivals .exit)) ≡ runCall
-        (instanceIn (byNumber n tasks edges (now (durations .entry)) (now (from .entry)) (now (to .entry)) (now (counts .entry)) costs))
+    requires { ⌜ Plannable (inOrder (now order) n tasks edges (now durations) (now from) (now to) (now counts) costs) ⌝ }
+    requires { ⌜ (tasks ≤ length (now order)) × Room tasks (now starts) (now processors) (now arrivals) ⌝ }
+    ensures { λ r. ⌜ called r (now (starts .exit)) (now (processors .exit)) (now (arrivals .exit)) ≡ runCall (instanceIn (inOrder
+        (now (order .entry)) n tasks edges (now (durations .entry)) (now (from .entry)) (now (to .entry)) (now (counts .entry)) costs))
         (now (starts .entry)) (now (processors .entry)) (now (arrivals .entry)) ⌝ }
 {
     let runs = graph::runs(from, edges);
@@ -365,7 +375,9 @@ pub fn run<'a>(
     // The proof counts the rounds: 2m - 1 are enough, so the loop ends.
     let mut rounds: usize = 0;
     while low < tasks {
-        let choice = look(clock, low, tasks, n, &busy, &waiting, &latest, arrivals);
+        let choice = look(
+            clock, low, tasks, n, order, &busy, &waiting, &latest, arrivals,
+        );
         let pair = choice.pair;
         let next = choice.next;
         if pair.start <= next {
@@ -378,6 +390,7 @@ pub fn run<'a>(
                 low,
                 tasks,
                 n,
+                order,
                 &costs,
                 to,
                 counts,

@@ -13,7 +13,7 @@ ghost use lib.Dec.{T as Holds};
 ghost use lib.ListN.{length, getD};
 ghost use Rattle.etf.specs.Bounds.{mostMessageTime, mostFinish};
 ghost use Rattle.schedule.specs.InArrays.{byNumber, instanceIn, Plannable};
-ghost use Rattle.schedule.specs.Pass.{firstBest, rowBy, noPair, canStart, searched};
+ghost use Rattle.schedule.specs.Pass.{firstBest, rowBy, noPair, canStart, searched, Skipped};
 ghost use Rattle.schedule.specs.SmallPass.{sources, Known, workedOut, Walkable, LookedOut, ToTell, Told, sheet, ToEnter, Entered};
 ghost use Rattle.schedule.specs.SmallPass.{SmallRoom, SmallRun};
 
@@ -344,6 +344,21 @@ fn tell(first: usize, last: usize, finish: u32, to: &[u8], waiting: &mut [u16], 
     }
 }
 
+// The first task from `low` on that is not placed; 65535 in place of a waiting count marks a placed one. By number, with no order in memory.
+fn skip(waiting: &[u16], low: usize, tasks: usize) -> usize
+    requires { ⌜ (low ≤ tasks) × (tasks ≤ length (now waiting)) ⌝ }
+    ensures { λ r. ⌜ Skipped (now (waiting .entry)) (λ i. i) low tasks r ⌝ }
+{
+    let mut t = low;
+    while t < tasks {
+        if waiting[t] != 65535 {
+            return t;
+        }
+        t += 1;
+    }
+    tasks
+}
+
 // Places a task that finishes at `finish` and tells its successors; returns the first task that is left.
 fn place(
     pair: Pair,
@@ -370,7 +385,7 @@ fn place(
     planner::put(t, p, pair.start, finish, starts, processors, busy, waiting);
     scratch[256 + t] = finish;
     tell(first, last, finish, to, waiting, scratch);
-    planner::skip(waiting, low, tasks)
+    skip(waiting, low, tasks)
 }
 
 // Plans an instance, and returns the last finish. The scratch begins with 512 zeros.

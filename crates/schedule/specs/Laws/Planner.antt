@@ -6,6 +6,7 @@ pub mod StartAndEnd
 pub mod ReadOff
 pub mod Search
 pub mod SearchSteps
+pub mod Skipping
 pub mod Sending
 pub mod EdgesOfTask
 pub mod WithoutTable

@@ -37,14 +37,15 @@ choose-requires : tie.Need-choose-requires
 choose-requires c κs =
     let at-survey = c .before .before in
     let surveyed = at-survey .survey .ensures in
-    let few : at-survey .before .before .before .before .before .before .args .n ≤ 16 = search needs in (
+    let few : at-survey .before .before .before .before .before .before .before .args .n ≤ 16 = search needs in (
       search needs,
       (
         search needs,
-        (
+        ((
           omega (arith, surveyed .few, few, at-survey .survey .kept .1 .1 .1 .0),
           λ i h. omega (arith, few, free-below _ _ _ _ _ surveyed i h),
         ),
+        at-survey .before .before .before .before .before .before .before .pre .1 .1),
       ),
     )
 
