@@ -18,8 +18,8 @@ module _ {pair : Pair} {finish first last low m n : ℕ} {row to counts starts p
 
   -- the lists after the pair is written down, the others as they were
   module _ {waiting₁ : List ℕ} (waiting-are : waiting₁ ≡ set waiting (pair .task) placedMark) where
-    to-skip : {k : ℕ} → k ≡ length waiting₁ → m ≤ k
-    to-skip e = omega (arith, ap length waiting-are, asked .few-tasks, asked .sending .waiting-size)
+    to-skip : {k : ℕ} → k ≡ length waiting₁ → k ≡ 256
+    to-skip e = omega (arith, ap length waiting-are, asked .sending .waiting-size)
 
     to-send : ToSend first last finish n row to counts (inbox arrivals waiting₁ latest)
     to-send = rw waiting-are (asked .sending)
@@ -43,7 +43,7 @@ module _ {pair : Pair} {finish first last low m n : ℕ} {row to counts starts p
 -- ---- the places
 
 abbrev start-of : tie.After-put → tie.Start
-start-of p = p .before .before .before .before .before .before .before .before .before .before .before .before .before .before
+start-of p = p .before .before .before .before .before .before .before .before .before .before .before .before .before .before .before
 
 abbrev put-of : tie.After-send → tie.After-put
 put-of s = s .before .before .before .before .before .before .before .before .before .before .before .before .before
@@ -52,31 +52,31 @@ abbrev send-of : tie.After-skip → tie.After-send
 send-of c = c .before .before .before .before .before .before .before .before
 
 mul-row : tie.Need-mul-row
-mul-row c = scaled-fits _ 16 64 (c .before .before .before .before .before .before .before .before .pre .processor-below) (lit< tt)
+mul-row c = scaled-fits _ 16 64 (c .before .before .before .before .before .before .before .before .before .pre .0 .processor-below) (lit< tt)
 
 element-copy-out-row : tie.Need-element-copy-out-row
-element-copy-out-row c = c .before .before .before .before .before .before .before .before .pre .processor-below
+element-copy-out-row c = c .before .before .before .before .before .before .before .before .before .pre .0 .processor-below
 
 put-requires : tie.Need-put-requires
 put-requires c κs =
-    let asked = c .before .before .before .before .before .before .before .before .before .before .before .before .before .pre in (
+    let asked = c .before .before .before .before .before .before .before .before .before .before .before .before .before .before .pre .0 in (
       (asked .has-start, asked .has-processor, waiting-room asked),
       (omega (arith, asked .processor-below, asked .busy-size), omega (arith, asked .processor-below)),
     )
 
 slice-aggregate-send : tie.Need-slice-aggregate-send
-slice-aggregate-send c = sym (start-of (c .before .before .before .before .before .before .before .before .before) .pre .sending .row-size)
+slice-aggregate-send c = sym (start-of (c .before .before .before .before .before .before .before .before .before) .pre .0 .sending .row-size)
 
 send-requires : tie.Need-send-requires
 send-requires c κs =
     let at-put = c .before .before .before .before .before .before .before .before .before .before .before .before in
-    to-send (start-of at-put .pre) (at-put .put .ensures .1 .1 .1)
+    to-send (start-of at-put .pre .0) (at-put .put .ensures .1 .1 .1)
 
 skip-requires : tie.Need-skip-requires
 skip-requires c κs =
     let at-send = c .before .before .before .before .before .before .before in
-    let asked = start-of (put-of at-send) .pre in
-    (asked .low-most, to-skip asked (put-of at-send .put .ensures .1 .1 .1) (at-send .send .kept .1 .1 .1 .1 .1 .1 .1 .1 .0))
+    let given = start-of (put-of at-send) .pre in
+    (given .0 .low-most, to-skip (given .0) (put-of at-send .put .ensures .1 .1 .1) (at-send .send .kept .1 .1 .1 .1 .1 .1 .1 .1 .0), given .1)
 
 same-length : tie.Need-same-length
 same-length c = put-of (send-of c) .put .kept .1 .1 .1 .1 .0
@@ -100,7 +100,7 @@ returns : tie.Need-returns
 returns c =
     let at-put = put-of (send-of c) in
     let noted = at-put .put .ensures in
-    together (start-of at-put .pre) (noted .1 .1 .1) (noted .0) (noted .1 .0) (noted .1 .1 .0) (send-of c .send .ensures) (c .skip .ensures)
+    together (start-of at-put .pre .0) (noted .1 .1 .1) (noted .0) (noted .1 .0) (noted .1 .1 .0) (send-of c .send .ensures) (c .skip .ensures)
 
 pub place-spec : {M : Type 1} → statement M
 place-spec =

@@ -14,8 +14,8 @@ use Rattle.graph.specs.Laws.Rising.{runs-of}
 use Rattle.graph.specs.Laws.ByPlace.{counts-at}
 use Rattle.etf.specs.Bounds.{mostFinish}
 use Rattle.schedule.specs.declared.planner.Pair.{Pair}
-use Rattle.schedule.specs.InArrays.{InArrays, byNumber, Plannable}
-use Rattle.schedule.specs.Pass.{Room, Tables, ToPlace, Placed, tables, inbox}
+use Rattle.schedule.specs.InArrays.{InArrays, inOrder, Plannable}
+use Rattle.schedule.specs.Pass.{OrderIn, Room, Tables, ToPlace, Placed, tables, inbox}
 use Rattle.schedule.specs.Laws.Held.{climb, edges-there}
 use Rattle.schedule.specs.Laws.Planner.Invariant.{Invariant, holds-first, holds-last, more-rounds, clock-small, arrivals-room}
 use Rattle.schedule.specs.Laws.Planner.Invariant.{task-small, finish-small, to-place, holds-placed, holds-moved}
@@ -61,13 +61,13 @@ module _ {pair : Pair} {finish low m n : ℕ} {row to counts : List ℕ} {S : Ta
 -- ---- the invariant
 
 abbrev Inv-loop : tie.InvT-loop
-Inv-loop n tasks edges durations from to counts starts₀ processors₀ arrivals₀ costs runs waiting₀ latest₀ busy₀ clock₀ end₀ low₀ rounds₀
+Inv-loop n tasks edges order durations from to counts starts₀ processors₀ arrivals₀ costs runs waiting₀ latest₀ busy₀ clock₀ end₀ low₀ rounds₀
     starts processors arrivals waiting latest busy clock end low rounds =
-    Invariant (byNumber n tasks edges durations from to counts costs) starts₀ processors₀ arrivals₀
+    Invariant (inOrder order n tasks edges durations from to counts costs) starts₀ processors₀ arrivals₀
     (tables starts processors busy (inbox arrivals waiting latest)) clock end low rounds
 
 abbrev μ-loop : tie.MeasureT-loop
-μ-loop n tasks edges durations from to counts starts₀ processors₀ arrivals₀ costs runs waiting₀ latest₀ busy₀ clock₀ end₀ low₀ rounds₀
+μ-loop n tasks edges order durations from to counts starts₀ processors₀ arrivals₀ costs runs waiting₀ latest₀ busy₀ clock₀ end₀ low₀ rounds₀
     starts processors arrivals waiting latest busy clock end low rounds =
     2 * tasks - rounds
 
@@ -75,17 +75,23 @@ abbrev μ-loop : tie.MeasureT-loop
 
 module _ (a : tie.At-loop Inv-loop μ-loop) where
   abbrev begun : tie.Start Inv-loop μ-loop
-  begun = a .before .before .before .before .before .before .before .before .before .before
+  begun = a .before .before .before .before .before .before .before .before .before .before .before
 
   abbrev A : InArrays
-  A = byNumber (begun .args .n) (begun .args .tasks) (begun .args .edges) (begun .args .durations .now) (begun .args .from .now)
-      (begun .args .to .now) (begun .args .counts .now) (begun .args .t8)
+  A = inOrder (begun .args .order .now) (begun .args .n) (begun .args .tasks) (begun .args .edges) (begun .args .durations .now)
+      (begun .args .from .now) (begun .args .to .now) (begun .args .counts .now) (begun .args .t9)
 
   abbrev given : Plannable A
   given = begun .pre .0
 
   abbrev room : Room (begun .args .tasks) (begun .args .starts .now) (begun .args .processors .now) (begun .args .arrivals .now)
-  room = begun .pre .1
+  room = begun .pre .1 .1
+
+  ordered : OrderIn (begun .args .tasks) (begun .args .order .now)
+  ordered = record {
+    places = begun .pre .1 .0;
+    below = λ i h. omega (arith, given .ordered .within i h, given .few-tasks);
+  }
 
   -- the edges of each task are one run
   edge-runs : Runs (begun .args .from .now) (begun .args .tasks) (begun .args .edges) (a .before .before .runs .result)
@@ -129,10 +135,10 @@ counts-requires c κs = search needs
 
 loop-holds : tie.Need-loop-holds Inv-loop μ-loop
 loop-holds c =
-    let start = c .before .before .before .before .before .before .before .before .before in
+    let start = c .before .before .before .before .before .before .before .before .before .before in
     let F = start .pre .0 in
     let counted = counts-at _ _ (edges-there F .1) (omega (arith, F .few-edges)) (c .counts .ensures) in
-    holds-first (start .pre .0) (start .pre .1) refl refl refl (counted .0) (counted .1) refl (zeros-at 256) refl (zeros-at 16)
+    holds-first (start .pre .0) (start .pre .1 .1) refl refl refl (counted .0) (counted .1) refl (zeros-at 256) refl (zeros-at 16)
 
 slice-aggregate-look : tie.Need-slice-aggregate-look Inv-loop μ-loop
 slice-aggregate-look c = sym (c .before .before .loop .inv .busy-size)
@@ -149,7 +155,7 @@ look-requires c κs =
     let a = q .before in
     let Y = a .loop .inv in (
       (given a .few-processors, clock-small (given a) (room a) Y, le-of-lt (remain q), given a .few-tasks),
-      (Y .busy-size, Y .waiting-size, Y .latest-size, arrivals-room (given a) (room a) Y),
+      ((Y .busy-size, Y .waiting-size, Y .latest-size, arrivals-room (given a) (room a) Y), ordered a),
     )
 
 slice-aggregate-finish : tie.Need-slice-aggregate-finish Inv-loop μ-loop
@@ -182,8 +188,11 @@ place-requires c κs =
     let w = at-finish .before .before in
     let a = a w in
     let done = at-finish .finish .ensures in
-    asked-of (done .1 .0) (done .1 .1)
-    (to-place (given a) (room a) (a .loop .inv) (remain (q w)) (at-look w .look .ensures) (in-time w) (edge-runs a) (done .0))
+    (
+      asked-of (done .1 .0) (done .1 .1)
+          (to-place (given a) (room a) (a .loop .inv) (remain (q w)) (at-look w .look .ensures) (in-time w) (edge-runs a) (done .0)),
+      ordered a,
+    )
 
 add-rounds : tie.Need-add-rounds Inv-loop μ-loop
 add-rounds c =
@@ -206,14 +215,14 @@ loop-again c =
     let runs = edge-runs a in
     ⊎-elim
     (λ w. let done = w .2 .ensures in
-    let kept = w .10 .kept .1 .1 .1 .1 .1 .1 .1 .1 .1 .1 .1 .1 in
+    let kept = w .10 .kept .1 .1 .1 .1 .1 .1 .1 .1 .1 .1 .1 .1 .1 in
     carried
     (holds-placed (given a) (room a) (a .loop .inv) (remain q) found (omega (arith, w .0 .taken)) runs (done .0)
     (placed-of (done .1 .0) (done .1 .1) (w .10 .ensures)) (later _ _ (w .21 .taken)) (kept .0) (kept .1 .0) (kept .1 .1 .0))
     (w .22) (w .23) (w .24) (w .25) (w .26) (w .27) (w .28) (w .29) (w .30))
     (⊎-elim
     (λ w. let done = w .2 .ensures in
-    let kept = w .10 .kept .1 .1 .1 .1 .1 .1 .1 .1 .1 .1 .1 .1 in
+    let kept = w .10 .kept .1 .1 .1 .1 .1 .1 .1 .1 .1 .1 .1 .1 .1 in
     carried
     (holds-placed (given a) (room a) (a .loop .inv) (remain q) found (omega (arith, w .0 .taken)) runs (done .0)
     (placed-of (done .1 .0) (done .1 .1) (w .10 .ensures)) (not-later _ _ (w .21 .left)) (kept .0) (kept .1 .0) (kept .1 .1 .0))
