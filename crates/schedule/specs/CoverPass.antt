@@ -11,6 +11,7 @@ use Rattle.base.specs.Rows.{most}
 use Rattle.etf.specs.Instance.{Instance}
 use Rattle.etf.specs.Topology.{entry}
 use Rattle.etf.specs.Bounds.{mostFinish}
+use Rattle.schedule.specs.InArrays.{InArrays, reordered, instanceIn, Plannable}
 use Rattle.schedule.specs.Call.{startOf, processorOf}
 use Rattle.schedule.specs.Pass.{messageAt, reachAt}
 
@@ -125,3 +126,8 @@ pub record HoldsPlan (I : Instance) (m : ℕ) (starts processors : List ℕ) : T
   pub has-processors : m ≤ length processors
   pub starts-are : (T : ℕ) → T < m → getD starts T 0 ≡ startOf I T
   pub processors-are : (T : ℕ) → T < m → getD processors T 0 ≡ processorOf I T
+
+-- the slices hold the planner's schedule of an instance in arrays, its tasks in this order
+pub record HoldsIn (A : InArrays) (starts processors : List ℕ) (order : ℕ → ℕ) : Type 0 where
+  pub plannable : Plannable (reordered order A)
+  pub plan : HoldsPlan (instanceIn (reordered order A)) (A .tasks) starts processors

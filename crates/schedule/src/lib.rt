@@ -10,7 +10,8 @@ mod walk;
 use job::Reading;
 use job::Verdict;
 ghost use mathlib.Core.Path.{_≡_};
-ghost use Rattle.schedule.specs.InArrays.{byNumber, instanceIn, Plannable};
+ghost use Prim.Native.Nat.{ℕ};
+ghost use Rattle.schedule.specs.InArrays.{reordered, byNumber, instanceIn, Plannable};
 ghost use Rattle.schedule.specs.Call.{called};
 ghost use Rattle.schedule.specs.Plan.{planCall};
 ghost use Rattle.schedule.specs.Small.{smallCall};
@@ -18,7 +19,7 @@ ghost use Rattle.schedule.specs.Cover.{figures, coverCall};
 ghost use Rattle.schedule.specs.Check.{checkCall, judgeCall};
 ghost use Rattle.schedule.specs.Pass.{shortOf, layCall, said};
 ghost use Rattle.schedule.specs.SmallPass.{laySmall};
-ghost use Rattle.schedule.specs.CoverPass.{HoldsPlan};
+ghost use Rattle.schedule.specs.CoverPass.{HoldsIn};
 
 // What planning a job gives: the number of its tasks and the plan's end.
 pub struct Outcome {
@@ -247,7 +248,7 @@ pub fn plan_small(
     })
 }
 
-// Measures the planner's plan of an instance, which the slices hold.
+// Measures the planner's plan of an instance, which the slices hold, in whichever order its tasks went.
 fn measure<'a>(
     n: usize,
     tasks: usize,
@@ -261,10 +262,12 @@ fn measure<'a>(
     processors: &[u8],
 ) -> Figures
     requires { ⌜ Plannable (byNumber n tasks edges (now durations) (now from) (now to) (now counts) costs) ⌝ }
-    requires { ⌜ HoldsPlan (instanceIn (byNumber n tasks edges (now durations) (now from) (now to) (now counts) costs))
-        tasks (now starts) (now processors) ⌝ }
-    ensures { λ r. ⌜ r ≡ figures (instanceIn
-        (byNumber n tasks edges (now (durations .entry)) (now (from .entry)) (now (to .entry)) (now (counts .entry)) costs)) ⌝ }
+    requires { ⌜ ((order : ℕ → ℕ) × HoldsIn (byNumber n tasks edges (now durations) (now from) (now to) (now counts) costs)
+        (now starts) (now processors) order) ⌝ }
+    ensures { λ r. ⌜ ((order : ℕ → ℕ) → HoldsIn
+        (byNumber n tasks edges (now (durations .entry)) (now (from .entry)) (now (to .entry)) (now (counts .entry)) costs)
+        (now (starts .entry)) (now (processors .entry)) order → r ≡ figures (instanceIn (reordered order
+        (byNumber n tasks edges (now (durations .entry)) (now (from .entry)) (now (to .entry)) (now (counts .entry)) costs)))) ⌝ }
 {
     let cover = walk::cover(
         n,

@@ -1,6 +1,7 @@
 -- `measure` answers the cover that the walk finds and the dearest chain.
-use native.Mathlib.Omega.{arith}
+use mathlib.Core.Path.{sym, _∙_}
 use borrow.Author.Needs.{needs}
+use Rattle.schedule.specs.Laws.Held.{same-dearest}
 use Rattle.schedule.specs.Laws.Calls.{measured}
 use Rattle.schedule.proofs.measure.Statement.{statement}
 use Rattle.schedule.proofs.measure.Tie as tie
@@ -12,9 +13,9 @@ dearest-requires : tie.Need-dearest-requires
 dearest-requires c κs = search needs
 
 returns : tie.Need-returns
-returns c =
+returns c order H =
     let at-cover = c .before in
-    measured _ (omega (arith, at-cover .cover .ensures)) (omega (arith, c .dearest .ensures))
+    measured _ (at-cover .cover .ensures order H) (c .dearest .ensures ∙ sym (same-dearest _ order))
 
 pub measure-spec : {M : Type 1} → statement M
 measure-spec = tie.close (tie.spec cover-requires dearest-requires returns)

@@ -12,14 +12,16 @@ use Rattle.job.specs.Limits.{mostDuration}
 use Rattle.job.specs.Job.{Edge}
 use Rattle.job.specs.Accepted.{Before}
 use Rattle.job.specs.Write.{edgeHeld}
-use Rattle.etf.specs.Instance.{Instance, WellFormed, tasks, duration, into, messageTime}
+use Rattle.etf.specs.Instance.{Instance, ordered, WellFormed, tasks, duration, into, messageTime}
 use Rattle.etf.specs.Schedule.{Placement, finish, arrival, lastFinish}
 use Rattle.etf.specs.Rule.{begin, run, planned}
+use Rattle.etf.specs.Dearest.{dearest}
 use Rattle.etf.specs.Bounds.{mostMessageTime, mostFinish, mostArrival}
+use Rattle.etf.specs.Laws.Ordered.{dearest-ordered}
 use Rattle.etf.specs.Laws.Placements.{into-of, into-in}
 use Rattle.etf.specs.Laws.Sound.{Opened}
 use Rattle.etf.specs.Laws.Times.{clock-after, finish-after, last-most, arrival-after}
-use Rattle.schedule.specs.InArrays.{InArrays, Plannable, instanceIn}
+use Rattle.schedule.specs.InArrays.{InArrays, reordered, Plannable, instanceIn}
 
 module _ {A : InArrays} (F : Plannable A) where
   abbrev I : Instance
@@ -133,3 +135,10 @@ module _ {A : InArrays} (F : Plannable A) where
       → arrival I (run I k begin .placements) T P ≤ mostArrival
   no-arrival-passes k T P o p =
       omega (arith, arrival-after I well mostDuration mostMessageTime short-tasks near-processors k T P o p, held-few)
+
+-- ---- the tasks in another order
+
+-- the dearest chain is the same
+pub same-dearest : (A : InArrays) (order : ℕ → ℕ) → dearest (instanceIn (reordered order A)) ≡ dearest (instanceIn A)
+unfolding instanceIn ordered
+same-dearest A order = dearest-ordered (instanceIn A) (values order 0 (A .tasks))
