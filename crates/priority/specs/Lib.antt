@@ -1,0 +1,3 @@
+pub mod TasksIn
+pub mod Orders
+pub mod Laws
