@@ -10,7 +10,11 @@ use Rattle.base.specs.Choice.{pick}
 use Rattle.base.specs.Lists.{values, upto, filter}
 use Rattle.base.specs.Rows.{sum, one-if, most}
 use Rattle.job.specs.Limits.{mostDuration}
-use Rattle.etf.specs.Instance.{Instance, tasks}
+use Rattle.job.specs.Job.{Job}
+use Rattle.etf.specs.Instance.{Instance, ordered, tasks}
+use Rattle.etf.specs.OfJob.{instance}
+use Rattle.priority.specs.declared.Ties.{Ties}
+use Rattle.priority.specs.Orders.{orderBy}
 use Rattle.etf.specs.Bounds.{mostMessageTime, mostFinish}
 use Rattle.etf.specs.Topology.{entry}
 use Rattle.etf.specs.Checker.{latestStart}
@@ -21,6 +25,7 @@ use Rattle.schedule.specs.declared.Laid.the-variants.{Last, Short}
 use Rattle.schedule.specs.declared.planner.Pair.{Pair}
 use Rattle.schedule.specs.declared.planner.Moment.{Moment}
 use Rattle.schedule.specs.declared.planner.Choice.{Choice}
+use Rattle.schedule.specs.InArrays.{InArrays, reordered, instanceIn}
 use Rattle.schedule.specs.Call.{Call, called, arrivalPlaces, laidOut, tooShort}
 use Rattle.schedule.specs.Plan.{lastOf}
 use Rattle.schedule.specs.Check.{checkOf, checkedAs}
@@ -202,6 +207,16 @@ pub record ToDeliver (m last : ℕ) (durations results : List ℕ) (costs : List
   pub finished : (T : ℕ) → T < m → getD starts T 0 + getD durations T 0 ≤ last
   pub in-time : last ≤ mostFinish
   pub near : (T : ℕ) → T < m → getD results T 0 * entry costs (getD processors T 0) 0 ≤ mostMessageTime
+
+-- ---- tie rules
+
+-- the instance in arrays, its tasks by a tie rule
+abbrev pub tiedBy : Ties → InArrays → InArrays
+tiedBy ties A = reordered (λ i. getD (orderBy ties (instanceIn A)) i 0) A
+
+-- a job's instance, its tasks by a tie rule
+unfoldable pub instanceBy : Ties → Job → Instance
+instanceBy ties j = ordered (orderBy ties (instance j)) (instance j)
 
 -- ---- the slices
 

@@ -9,15 +9,16 @@ mod walk;
 
 use job::Reading;
 use job::Verdict;
+use priority::Ties;
 ghost use mathlib.Core.Path.{_≡_};
 ghost use Prim.Native.Nat.{ℕ};
 ghost use Rattle.schedule.specs.InArrays.{reordered, byNumber, instanceIn, Plannable};
 ghost use Rattle.schedule.specs.Call.{called};
-ghost use Rattle.schedule.specs.Plan.{planCall};
+ghost use Rattle.schedule.specs.Plan.{planCallBy, planCall, weightCall};
 ghost use Rattle.schedule.specs.Small.{smallCall};
-ghost use Rattle.schedule.specs.Cover.{figures, coverCall};
+ghost use Rattle.schedule.specs.Cover.{figures, coverCallBy, coverCall, weightCoverCall};
 ghost use Rattle.schedule.specs.Check.{checkCall, judgeCall};
-ghost use Rattle.schedule.specs.Pass.{shortOf, layCall, said};
+ghost use Rattle.schedule.specs.Pass.{shortOf, tiedBy, instanceBy, layCall, said};
 ghost use Rattle.schedule.specs.SmallPass.{laySmall};
 ghost use Rattle.schedule.specs.CoverPass.{HoldsIn};
 
@@ -76,14 +77,15 @@ fn too_short(tasks: usize, starts: usize, processors: usize, scratch: usize, pla
     scratch < places
 }
 
-// Lays the plan of an instance out in the slices, if there is room.
+// Lays the plan of an instance out in the slices, if there is room; ties in start go by `ties`.
 fn lay_out<'a>(
+    ties: Ties,
     n: usize,
     tasks: usize,
     edges: usize,
-    durations: &'a [u32],
-    from: &'a [u8],
-    to: &'a [u8],
+    durations: &'a [u32; 256],
+    from: &'a [u8; 1024],
+    to: &'a [u8; 1024],
     counts: &'a [u16],
     costs: [[u32; 16]; 16],
     starts: &mut [u32],
@@ -91,18 +93,20 @@ fn lay_out<'a>(
     scratch: &mut [u32],
 ) -> Laid
     requires { ⌜ Plannable (byNumber n tasks edges (now durations) (now from) (now to) (now counts) costs) ⌝ }
-    ensures { λ r. ⌜ called r (now (starts .exit)) (now (processors .exit)) (now (scratch .exit)) ≡ layCall
-        (instanceIn (byNumber n tasks edges (now (durations .entry)) (now (from .entry)) (now (to .entry)) (now (counts .entry)) costs))
+    ensures { λ r. ⌜ called r (now (starts .exit)) (now (processors .exit)) (now (scratch .exit)) ≡ layCall (instanceIn (tiedBy ties
+        (byNumber n tasks edges (now (durations .entry)) (now (from .entry)) (now (to .entry)) (now (counts .entry)) costs)))
         (now (starts .entry)) (now (processors .entry)) (now (scratch .entry)) ⌝ }
 {
     if too_short(tasks, starts.len(), processors.len(), scratch.len(), 4096) {
         return Laid::Short;
     }
     base::clear(scratch, 4096);
+    let order = priority::order(ties, tasks, edges, durations, from, to);
     Laid::Last(planner::run(
         n,
         tasks,
         edges,
+        &order,
         durations,
         from,
         to,
@@ -114,10 +118,16 @@ fn lay_out<'a>(
     ))
 }
 
-// Plans the job of a file (01: the planner).
-pub fn plan(file: &[u8], starts: &mut [u32], processors: &mut [u8], scratch: &mut [u32]) -> Planned
-    ensures { λ r. ⌜ called r (now (starts .exit)) (now (processors .exit)) (now (scratch .exit)) ≡
-        planCall (now (file .entry)) (now (starts .entry)) (now (processors .entry)) (now (scratch .entry)) ⌝ }
+// Plans the job of a file; ties in start go by `ties`.
+fn plan_by(
+    ties: Ties,
+    file: &[u8],
+    starts: &mut [u32],
+    processors: &mut [u8],
+    scratch: &mut [u32],
+) -> Planned
+    ensures { λ r. ⌜ called r (now (starts .exit)) (now (processors .exit)) (now (scratch .exit)) ≡ planCallBy (instanceBy ties)
+        (now (file .entry)) (now (starts .entry)) (now (processors .entry)) (now (scratch .entry)) ⌝ }
 {
     let r = job::read(file);
     let verdict = r.verdict;
@@ -127,6 +137,7 @@ pub fn plan(file: &[u8], starts: &mut [u32], processors: &mut [u8], scratch: &mu
     let n = base::index(r.platform.processors);
     let costs = costs::square(r.platform, &r.arrays.wires);
     let laid = lay_out(
+        ties,
         n,
         tasks,
         edges,
@@ -152,6 +163,27 @@ pub fn plan(file: &[u8], starts: &mut [u32], processors: &mut [u8], scratch: &mu
         processors,
     );
     Planned::Plan(Outcome { tasks, end })
+}
+
+// Plans the job of a file (01: the planner).
+pub fn plan(file: &[u8], starts: &mut [u32], processors: &mut [u8], scratch: &mut [u32]) -> Planned
+    ensures { λ r. ⌜ called r (now (starts .exit)) (now (processors .exit)) (now (scratch .exit)) ≡
+        planCall (now (file .entry)) (now (starts .entry)) (now (processors .entry)) (now (scratch .entry)) ⌝ }
+{
+    plan_by(Ties::Number, file, starts, processors, scratch)
+}
+
+// The same with ties in start to the task with the greatest weight, the longest work left (02 §6).
+pub fn plan_by_weight(
+    file: &[u8],
+    starts: &mut [u32],
+    processors: &mut [u8],
+    scratch: &mut [u32],
+) -> Planned
+    ensures { λ r. ⌜ called r (now (starts .exit)) (now (processors .exit)) (now (scratch .exit)) ≡
+        weightCall (now (file .entry)) (now (starts .entry)) (now (processors .entry)) (now (scratch .entry)) ⌝ }
+{
+    plan_by(Ties::Weight, file, starts, processors, scratch)
 }
 
 // Lays the plan of an instance out in the slices, if there is room, with 512 places of scratch, which are 0 afterwards.
@@ -285,10 +317,16 @@ fn measure<'a>(
     Figures { cover, dearest }
 }
 
-// Plans the job of a file, and measures the plan (01: the cover call).
-pub fn cover(file: &[u8], starts: &mut [u32], processors: &mut [u8], scratch: &mut [u32]) -> Covered
-    ensures { λ r. ⌜ called r (now (starts .exit)) (now (processors .exit)) (now (scratch .exit)) ≡
-        coverCall (now (file .entry)) (now (starts .entry)) (now (processors .entry)) (now (scratch .entry)) ⌝ }
+// Plans the job of a file, ties in start going by `ties`, and measures the plan.
+fn cover_by(
+    ties: Ties,
+    file: &[u8],
+    starts: &mut [u32],
+    processors: &mut [u8],
+    scratch: &mut [u32],
+) -> Covered
+    ensures { λ r. ⌜ called r (now (starts .exit)) (now (processors .exit)) (now (scratch .exit)) ≡ coverCallBy (instanceBy ties)
+        (now (file .entry)) (now (starts .entry)) (now (processors .entry)) (now (scratch .entry)) ⌝ }
 {
     let r = job::read(file);
     let verdict = r.verdict;
@@ -298,6 +336,7 @@ pub fn cover(file: &[u8], starts: &mut [u32], processors: &mut [u8], scratch: &m
     let n = base::index(r.platform.processors);
     let costs = costs::square(r.platform, &r.arrays.wires);
     let laid = lay_out(
+        ties,
         n,
         tasks,
         edges,
@@ -325,6 +364,27 @@ pub fn cover(file: &[u8], starts: &mut [u32], processors: &mut [u8], scratch: &m
         starts,
         processors,
     ))
+}
+
+// Plans the job of a file, and measures the plan (01: the cover call).
+pub fn cover(file: &[u8], starts: &mut [u32], processors: &mut [u8], scratch: &mut [u32]) -> Covered
+    ensures { λ r. ⌜ called r (now (starts .exit)) (now (processors .exit)) (now (scratch .exit)) ≡
+        coverCall (now (file .entry)) (now (starts .entry)) (now (processors .entry)) (now (scratch .entry)) ⌝ }
+{
+    cover_by(Ties::Number, file, starts, processors, scratch)
+}
+
+// The same of the plan with ties in start to the task with the greatest weight (02 §6).
+pub fn cover_by_weight(
+    file: &[u8],
+    starts: &mut [u32],
+    processors: &mut [u8],
+    scratch: &mut [u32],
+) -> Covered
+    ensures { λ r. ⌜ called r (now (starts .exit)) (now (processors .exit)) (now (scratch .exit)) ≡
+        weightCoverCall (now (file .entry)) (now (starts .entry)) (now (processors .entry)) (now (scratch .entry)) ⌝ }
+{
+    cover_by(Ties::Weight, file, starts, processors, scratch)
 }
 
 // What the checker says of a plan in two slices for an instance: 9 for a slice too short for its tasks, the plan's trouble, or a yes.

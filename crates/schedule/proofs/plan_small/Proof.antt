@@ -2,6 +2,7 @@
 -- it laid out.
 use mathlib.Core.Path.{sym}
 use borrow.Author.Needs.{needs}
+use Rattle.etf.specs.Jobs.{by-number}
 use Rattle.etf.specs.OfJob.{instance, resultOf}
 use Rattle.schedule.specs.declared.Planned.the-variants.{Plan, Refused}
 use Rattle.schedule.specs.Plan.{outcome}
@@ -133,7 +134,7 @@ returns-3 c =
     let given = plannable read (index-of s .index .ensures .0) (s .square .ensures) in
     let held = small-holds given _ _ _ (at-laid .laid .given .1) (l .lay-small .ensures) in
     call-small-end read same _ _ _ (at-laid .laid .given .1) (l .lay-small .ensures)
-    (planned-right read same (end-found given (held .0) (held .1) _ (resultOf (read .job)) (read .results-are) (c .end .ensures)))
+    (planned-right read by-number same (end-found given (held .0) (held .1) _ (resultOf (read .job)) (read .results-are) (c .end .ensures)))
 
 pub plan-small-spec : {M : Type 1} → statement M
 plan-small-spec =

@@ -114,15 +114,15 @@ module _ {A : InArrays} (F : Plannable A) where
     unfolding layCall
     laid-short e w = rw (short-is arrivalPlaces e w)
 
-    -- a plan laid out over a cleared scratch
-    pub laid-end : {t : Bool} {r : ℕ} {starts′ processors′ cleared scratch′ : List ℕ}
+    -- a plan laid out over a cleared scratch, of the instance under another name
+    pub laid-end : {H : Instance} {t : Bool} {r : ℕ} {starts′ processors′ cleared scratch′ : List ℕ} → H ≡ I
         → t ≡ shortOf arrivalPlaces (A .tasks) (length starts) (length processors) (length scratch) → t ≡ false
-        → cleared ≡ filled (λ x. 0) 4096 scratch → called r starts′ processors′ scratch′ ≡ runCall I starts processors cleared
+        → cleared ≡ filled (λ x. 0) 4096 scratch → called r starts′ processors′ scratch′ ≡ runCall H starts processors cleared
         → called (Last r) starts′ processors′ scratch′ ≡ layCall I starts processors scratch
     unfolding layCall laidOut
-    laid-end e w f R =
+    laid-end same e w f R =
         rw (short-is arrivalPlaces e w)
-        (ap (λ (c : Call ℕ). called (Last (c .answer)) (c .starts) (c .processors) (c .scratch)) R
+        (ap (λ (c : Call ℕ). called (Last (c .answer)) (c .starts) (c .processors) (c .scratch)) (rw same at R)
         ∙ rw (f, filled-filled (scratchAt I) (λ x. 0) 4096 scratch (long-enough e w .2)))
 
     -- where it is laid out, the slices hold it
