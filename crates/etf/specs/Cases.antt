@@ -1,5 +1,5 @@
 -- The worked cases of document 01 ("Ticks worked out") in one table, held to the definitions by computing them; after them cases that its
--- words settle and its list does not have, cases of document 02 §1 and §2, and the small inputs of the refusal table that are the
+-- words settle and its list does not have, cases of document 02 §1, §2 and §6, and the small inputs of the refusal table that are the
 -- checker's. In the documents' words.
 use mathlib.Core.Option.{Option, none, some, bind, orElse}
 use mathlib.Core.Path.{_≡_, refl, sym, _∙_}
@@ -9,7 +9,7 @@ use lib.ListN.{getD}
 use Rattle.base.specs.Lists.{upto, any, all, filter, greatest, keep, best}
 use Rattle.job.specs.declared.Platform.{Platform}
 use Rattle.job.specs.Job.{Edge, Wire, Result, wireCost, resultCount, Job, blank, withRack, withWires, withTasks, withEdges, withResults}
-use Rattle.etf.specs.Instance.{Instance, duration, into, messageTime}
+use Rattle.etf.specs.Instance.{Instance, ordered, tasks, duration, into, outOf, messageTime}
 use Rattle.etf.specs.Schedule.{Placement, placed, placementOf, finish, messageTimeTo, arrival, lastFinish, scheduleOf, byTask}
 use Rattle.etf.specs.Schedule.{resultTime, end, dearestResult}
 use Rattle.etf.specs.Rule.{atMost, move, settle, nextMoment, free, finished, ready, pair, pairs, choice, complete, round, run}
@@ -18,10 +18,12 @@ use Rattle.etf.specs.Cover.{running, busy, idle, someIdle, latestIdleTic
 use Rattle.etf.specs.Dearest.{greatestCost, dearestTo, dearest}
 use Rattle.etf.specs.Checker.{firstAnswer, misplaced, overlap, early, check}
 use Rattle.etf.specs.Topology.{hypercubeHops, difference, ringHops, hops, cost, square}
-use Rattle.etf.specs.OfJob.{costsOf, instance, resultOf}
+use Rattle.etf.specs.OfJob.{costsOf, instance, instanceByWeight, resultOf}
+use Rattle.etf.specs.Weight.{put, inserted, weightIn, weight, byWeight}
 
 -- what a case asks: the plan of a job, its plan with another priority order, the hops between two boards, the planner's rounds,
--- the checker's answer to a plan's boards and starts, or the last finish and the dearest result time of a job's plan
+-- the checker's answer to a plan's boards and starts, the last finish and the dearest result time of a job's plan, or its tasks' weights
+-- and the tasks by weight, and its plan by them
 pub data Question : Type 0 where
   planOf : Job → Question
   planBy : List ℕ → Job → Question
@@ -29,6 +31,8 @@ pub data Question : Type 0 where
   roundsOf : Job → Question
   answerTo : Job → List ℕ → List ℕ → Question
   resultTimeOf : Job → Question
+  weightsOf : Job → Question
+  planByWeight : Job → Question
 
 -- the numbers that program `plan` prints after its header:
 -- of each task its number, processor, start and finish, then the end, C and the dearest chain
@@ -37,10 +41,6 @@ printed I result =
     map (λ (u : Placement). u .task ∷ u .processor ∷ u .start ∷ finish I u ∷ []) (byTask I (planned I))
     ++ ((end I result (planned I) ∷ []) ∷ (cover I ∷ []) ∷ (dearest I ∷ []) ∷ [])
 
--- the same instance, its tasks by another priority
-abbrev by : List ℕ → Instance → Instance
-by order I = record { processors = I .processors; durations = I .durations; edges = I .edges; cost = I .cost; order = order }
-
 -- 0 for a yes, else the number
 abbrev refusal : Option ℕ → ℕ
 refusal none = 0
@@ -48,15 +48,17 @@ refusal (some k) = k
 
 -- the lines that answer a question; all definitions are opened, so that they compute, also where another crate opens this one name
 unfoldable pub answer : Question → List (List ℕ)
-unfolding printed instance upto any all filter greatest keep best duration into messageTime
+unfolding printed instance instanceByWeight ordered outOf weightIn weight put inserted byWeight upto any all filter greatest keep best duration into messageTime
     placed placementOf messageTimeTo arrival lastFinish resultCount resultTime end dearestResult scheduleOf byTask
     atMost move settle nextMoment free finished ready pair pairs choice complete round run planned roundsIn rounds
     running busy idle someIdle latestIdleTick lowestIdle later latestInto back walk lastTask cover greatestCost dearestTo dearest
     firstAnswer misplaced overlap early check hypercubeHops difference ringHops hops cost wireCost square costsOf blank bind orElse flatMap
 answer (planOf j) = printed (instance j) (resultOf j)
-answer (planBy order j) = printed (by order (instance j)) (resultOf j)
+answer (planBy order j) = printed (ordered order (instance j)) (resultOf j)
 answer (resultTimeOf j) =
     (lastFinish (instance j) (planned (instance j)) ∷ []) ∷ (dearestResult (instance j) (resultOf j) (planned (instance j)) ∷ []) ∷ []
+answer (weightsOf j) = map (weight (instance j)) (upto (tasks (instance j))) ∷ byWeight (instance j) ∷ []
+answer (planByWeight j) = printed (instanceByWeight j) (resultOf j)
 answer (hopsOf r p q) = (hops r p q ∷ []) ∷ []
 answer (roundsOf j) = (rounds (instance j) ∷ []) ∷ []
 answer (answerTo j boards starts) =
@@ -206,6 +208,57 @@ delivered =
     }
     ∷ []
 
+-- document 02 §6: a job on n boards, flat, with c
+abbrev flat : ℕ → ℕ → List ℕ → List Edge → Job
+flat n c steps links = job (rack n 0 c) [] steps links
+
+-- the weights and the steps by weight; the plan by number, and by weight
+abbrev weighed : Job → List ℕ → List ℕ → Case
+weighed j weights order = record { question = weightsOf j; lines = weights ∷ order ∷ [] }
+
+abbrev numbered : Job → List (List ℕ) → Case
+numbered j lines = record { question = planOf j; lines = lines }
+
+abbrev heavier : Job → List (List ℕ) → Case
+heavier j lines = record { question = planByWeight j; lines = lines }
+
+abbrev long-branch : Job
+long-branch = flat 2 1 (1 ∷ 1 ∷ 1 ∷ 1 ∷ 4 ∷ []) (link 0 3 1 ∷ link 1 3 1 ∷ link 2 4 1 ∷ [])
+
+abbrev one-weight : Job
+one-weight = flat 1 0 (2 ∷ 1 ∷ 3 ∷ 1 ∷ []) (link 0 3 1 ∷ link 1 3 2 ∷ [])
+
+abbrev two-successors : Job
+two-successors = flat 1 0 (1 ∷ 3 ∷ 3 ∷ 5 ∷ []) (link 0 1 1 ∷ link 0 2 1 ∷ [])
+
+abbrev start-first : Job
+start-first = flat 2 1 (1 ∷ 1 ∷ 5 ∷ 1 ∷ []) (link 0 2 1 ∷ link 1 2 1 ∷ [])
+
+abbrev at-once : Job
+at-once = flat 2 1 (3 ∷ 2 ∷ 1 ∷ 3 ∷ 1 ∷ []) (link 0 2 1 ∷ link 0 3 1 ∷ link 1 4 2 ∷ [])
+
+-- ties by the longest work left
+pub by-weight : List Case
+by-weight =
+    -- a long branch: by number steps 0 and 1 go first, and step 4, of 4 ticks, begins at 2; by weight step 2 goes first, and the end is
+    -- 5 in place of 6
+    weighed long-branch (2 ∷ 2 ∷ 5 ∷ 1 ∷ 4 ∷ []) (2 ∷ 4 ∷ 0 ∷ 1 ∷ 3 ∷ [])
+    ∷ numbered long-branch (row 0 0 0 1 ∷ row 1 1 0 1 ∷ row 2 0 1 2 ∷ row 3 1 2 3 ∷ row 4 0 2 6 ∷ totals 6 1 1)
+    ∷ heavier long-branch (row 0 1 0 1 ∷ row 1 1 1 2 ∷ row 2 0 0 1 ∷ row 3 1 2 3 ∷ row 4 0 1 5 ∷ totals 5 0 1)
+    -- a tie in weight: steps 0 and 2 both have 3, and 0 goes first; then 1, which has 2
+    ∷ weighed one-weight (3 ∷ 2 ∷ 3 ∷ 1 ∷ []) (0 ∷ 2 ∷ 1 ∷ 3 ∷ [])
+    ∷ heavier one-weight (row 0 0 0 2 ∷ row 1 0 5 6 ∷ row 2 0 2 5 ∷ row 3 0 6 7 ∷ totals 7 0 0)
+    -- the greatest weight among the successors and not their sum: step 0 has 1 + 3, so step 3 with 5 goes first
+    ∷ weighed two-successors (4 ∷ 3 ∷ 3 ∷ 5 ∷ []) (3 ∷ 0 ∷ 1 ∷ 2 ∷ [])
+    ∷ heavier two-successors (row 0 0 5 6 ∷ row 1 0 6 9 ∷ row 2 0 9 12 ∷ row 3 0 0 5 ∷ totals 12 0 0)
+    -- the start comes before the weight: at 1 step 3 starts at once, and step 2, with the greater weight, at 2
+    ∷ weighed start-first (6 ∷ 6 ∷ 5 ∷ 1 ∷ []) (0 ∷ 1 ∷ 2 ∷ 3 ∷ [])
+    ∷ heavier start-first (row 0 0 0 1 ∷ row 1 1 0 1 ∷ row 2 1 2 7 ∷ row 3 0 1 2 ∷ totals 7 1 1)
+    -- of two steps ready at one tick the heavier takes the board where it starts at once: step 3 and not step 2, on board 0 at 3
+    ∷ numbered at-once (row 0 0 0 3 ∷ row 1 1 0 2 ∷ row 2 0 3 4 ∷ row 3 1 4 7 ∷ row 4 1 2 3 ∷ totals 7 1 2)
+    ∷ heavier at-once (row 0 0 0 3 ∷ row 1 1 0 2 ∷ row 2 1 4 5 ∷ row 3 0 3 6 ∷ row 4 1 2 3 ∷ totals 6 0 2)
+    ∷ []
+
 -- what its words settle beside them
 pub further : List Case
 further =
@@ -258,7 +311,7 @@ checks =
 
 -- the table
 pub cases : List Case
-cases = worked ++ (further ++ (unequal ++ (delivered ++ checks)))
+cases = worked ++ (further ++ (unequal ++ (delivered ++ (by-weight ++ checks))))
 
 -- the lines of each case of a table answer its question
 abbrev pub Right : List Case → Type 0
@@ -287,6 +340,10 @@ delivered-right : Right delivered
 unfolding delivered answer
 delivered-right = refl
 
+by-weight-right : Right by-weight
+unfolding by-weight answer
+by-weight-right = refl
+
 checks-right : Right checks
 unfolding checks answer
 checks-right = refl
@@ -295,6 +352,7 @@ checks-right = refl
 pub cases-hold : Right cases
 unfolding cases
 cases-hold =
-    join worked (further ++ (unequal ++ (delivered ++ checks))) worked-right
-    (join further (unequal ++ (delivered ++ checks)) further-right
-    (join unequal (delivered ++ checks) unequal-right (join delivered checks delivered-right checks-right)))
+    join worked (further ++ (unequal ++ (delivered ++ (by-weight ++ checks)))) worked-right
+    (join further (unequal ++ (delivered ++ (by-weight ++ checks))) further-right
+    (join unequal (delivered ++ (by-weight ++ checks)) unequal-right
+    (join delivered (by-weight ++ checks) delivered-right (join by-weight checks by-weight-right checks-right))))

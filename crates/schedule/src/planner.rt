@@ -376,7 +376,15 @@ pub fn run<'a>(
     let mut rounds: usize = 0;
     while low < tasks {
         let choice = look(
-            clock, low, tasks, n, order, &busy, &waiting, &latest, arrivals,
+            clock,
+            low,
+            tasks,
+            n,
+            order,
+            &busy,
+            &waiting,
+            &latest,
+            arrivals,
         );
         let pair = choice.pair;
         let next = choice.next;

@@ -61,8 +61,7 @@ run-requires c κs =
     let at-short = short-of at-clear in
     let fits = long-enough (at-short .too-short .ensures) (room-of at-clear .if1 .left) in
     let start = start-of at-short in
-    let scratch = start .args .scratch .now in
-    (
+    let scratch = start .args .scratch .now in (
       plannable-in (start .pre) (start .args .ties) _ (by-place at-order),
       (
         omega (arith, at-order .order .ensures .0, start .pre .few-tasks),

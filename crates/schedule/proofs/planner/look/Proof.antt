@@ -41,11 +41,13 @@ choose-requires c κs =
       search needs,
       (
         search needs,
-        ((
-          omega (arith, surveyed .few, few, at-survey .survey .kept .1 .1 .1 .0),
-          λ i h. omega (arith, few, free-below _ _ _ _ _ surveyed i h),
+        (
+          (
+            omega (arith, surveyed .few, few, at-survey .survey .kept .1 .1 .1 .0),
+            λ i h. omega (arith, few, free-below _ _ _ _ _ surveyed i h),
+          ),
+          at-survey .before .before .before .before .before .before .before .pre .1 .1,
         ),
-        at-survey .before .before .before .before .before .before .before .pre .1 .1),
       ),
     )
 

@@ -187,8 +187,7 @@ place-requires c κs =
     let at-finish = c .before .before .before .before .before .before .before in
     let w = at-finish .before .before in
     let a = a w in
-    let done = at-finish .finish .ensures in
-    (
+    let done = at-finish .finish .ensures in (
       asked-of (done .1 .0) (done .1 .1)
           (to-place (given a) (room a) (a .loop .inv) (remain (q w)) (at-look w .look .ensures) (in-time w) (edge-runs a) (done .0)),
       ordered a,
