@@ -11,7 +11,7 @@ use Rattle.schedule.specs.Call.{startOf, processorOf}
 use Rattle.schedule.specs.Check.{checkOf, numberOf}
 use Rattle.schedule.specs.Cases.{rack-2, step, file-a, apart}
 use Rattle.kelvrist.specs.PlanBytes.{returned, taskBytes, planBytes, processorIn, startIn}
-use Rattle.kelvrist.specs.PlanBytes.{planBytesFor, planBytesCall, checkBytesFor, checkBytesCall}
+use Rattle.kelvrist.specs.PlanBytes.{planBytesFor, planBytesCallBy, planBytesCall, checkBytesFor, checkBytesCall}
 
 -- two steps of five ticks with a link of one message
 abbrev linked : List ℕ
@@ -39,6 +39,6 @@ pub cases-hold :
     × (checkBytesCall linked (at 0 0 ++ at 1 6) ≡ 13)
     × (checkBytesCall linked (at 0 0 ++ at 1 7) ≡ 0)
     × (checkBytesCall (9 ∷ []) [] ≡ 2)
-unfolding checkOf planBytesCall planBytesFor planBytes taskBytes bytes startOf processorOf checkBytesCall checkBytesFor numberOf
+unfolding checkOf planBytesCallBy planBytesFor planBytes taskBytes bytes startOf processorOf checkBytesCall checkBytesFor numberOf
     processorIn startIn computed answer
 cases-hold = (refl, refl, refl, refl, refl, refl, refl, refl, refl, refl, refl, refl, refl)

@@ -13,20 +13,21 @@ use Rattle.base.specs.Laws.Filled.{filled-at}
 use Rattle.job.specs.Limits.{mostTasks}
 use Rattle.job.specs.Job.{Job}
 use Rattle.job.specs.Read.{Answer, accepted, refused, readJob}
-use Rattle.job.specs.Accepted.{accepted-job}
-use Rattle.etf.specs.Instance.{tasks}
-use Rattle.etf.specs.OfJob.{instance}
+use Rattle.job.specs.Accepted.{Accepted, accepted-job}
+use Rattle.etf.specs.Instance.{Instance, tasks}
+use Rattle.etf.specs.OfJob.{instance, TieRule}
+use Rattle.etf.specs.Jobs.{same-tasks}
 use Rattle.etf.specs.Laws.OfJob.{few}
 use Rattle.schedule.specs.declared.Planned.{Planned}
 use Rattle.schedule.specs.declared.Planned.the-variants.{Plan, Refused}
 use Rattle.schedule.specs.declared.Checked.{Checked}
 use Rattle.schedule.specs.declared.Checked.the-variants.{Yes, Refused as NotChecked}
-use Rattle.schedule.specs.Call.{Call, startOf, processorOf, arrivalPlaces, laidOut, planFor, tooShort, callFor}
-use Rattle.schedule.specs.Plan.{outcome, planCall}
+use Rattle.schedule.specs.Call.{Call, startOf, processorOf, arrivalPlaces, laidOut, planBy, tooShort, callFor}
+use Rattle.schedule.specs.Plan.{outcomeBy, planCallBy}
 use Rattle.schedule.specs.Check.{checkOf, checkedAs, numberOf, checkFor, checkCall}
 use Rattle.schedule.specs.Laws.Checker.Answer.{check-of-same}
 use Rattle.kelvrist.specs.PlanBytes.{BytesCall, returned, planBytes, processorIn, startIn}
-use Rattle.kelvrist.specs.PlanBytes.{planBytesFor, planBytesCall, checkBytesFor, checkBytesCall}
+use Rattle.kelvrist.specs.PlanBytes.{planBytesFor, planBytesCallBy, checkBytesFor, checkBytesCall}
 use Rattle.kelvrist.specs.Laws.Encoded.{plan-bytes-same}
 
 -- 01: "Each returns 0 or the refusal's number": of the planner's answer, an outcome or a refusal
@@ -55,32 +56,39 @@ unfolding numberOf checkedAs
 same-number none = refl
 same-number (some k) = refl
 
--- over slices with places for every job's tasks the planner from C is the planner
-pub plan-in-bytes : (file plan starts processors scratch : List ℕ)
+-- whatever the order, there are as many tasks as the job has
+pub as-many : {by : Job → Instance} → TieRule by → (j : Job) → Accepted j → tasks (by j) ≡ tasks (instance j)
+unfolding instance
+as-many rule j a = same-tasks rule j a
+
+-- over slices with places for every job's tasks a planner from C, by any tie rule, is the planner
+pub plan-in-bytes : {by : Job → Instance} → TieRule by → (file plan starts processors scratch : List ℕ)
     → mostTasks ≤ length starts → mostTasks ≤ length processors → arrivalPlaces ≤ length scratch
-    → planBytesCall file plan ≡ inBytes (planCall file starts processors scratch) plan
-unfolding planBytesCall planCall planBytesFor callFor laidOut tooShort outcome
-plan-in-bytes file plan starts processors scratch a b c = go (readJob file) refl
+    → planBytesCallBy by file plan ≡ inBytes (planCallBy by file starts processors scratch) plan
+unfolding planBytesCallBy planCallBy planBytesFor callFor laidOut tooShort outcomeBy
+plan-in-bytes {by} rule file plan starts processors scratch a b c = go (readJob file) refl
   where
     call : Answer → Call Planned
-    call x = callFor arrivalPlaces Refused (planFor (λ j. Plan (outcome j))) x starts processors scratch
+    call x = callFor arrivalPlaces Refused (planBy by (λ j. Plan (outcomeBy by j))) x starts processors scratch
 
-    held : (j : Job) → tasks (instance j) ≤ mostTasks → planBytesFor (accepted j) plan ≡ inBytes (call (accepted j)) plan
-    held j small =
-        let I = instance j in
-        let same = plan-bytes-same (tasks I) (λ T. getD (filled (processorOf I) (tasks I) processors) T 0) (processorOf I)
+    held : (j : Job) → tasks (instance j) ≤ mostTasks → tasks (by j) ≡ tasks (instance j)
+        → planBytesFor by (accepted j) plan ≡ inBytes (call (accepted j)) plan
+    held j small many =
+        let I = by j in
+        let m = tasks (instance j) in
+        let same = plan-bytes-same m (λ T. getD (filled (processorOf I) (tasks I) processors) T 0) (processorOf I)
         (λ T. getD (filled (startOf I) (tasks I) starts) T 0) (startOf I)
-        (filled-at (processorOf I) (tasks I) processors) (filled-at (startOf I) (tasks I) starts) in
+        (λ T h. filled-at (processorOf I) (tasks I) processors T (omega (arith, many)))
+        (λ T h. filled-at (startOf I) (tasks I) starts T (omega (arith, many))) in
         simp (
-          le-ltb (length starts) (tasks I) (omega arith),
-          le-ltb (length processors) (tasks I) (omega arith),
+          le-ltb (length starts) m (omega arith),
+          le-ltb (length processors) m (omega arith),
           le-ltb (length scratch) arrivalPlaces c,
         )
-        (ap (λ (l : List ℕ). pick (ltb (length plan) (5 * tasks I)) (returned 9 plan) (returned 0 (l ++ drop (5 * tasks I) plan)))
-        (sym same))
+        (ap (λ (l : List ℕ). pick (ltb (length plan) (5 * m)) (returned 9 plan) (returned 0 (l ++ drop (5 * m) plan))) (sym same))
 
-    go : (x : Answer) → readJob file ≡ x → planBytesFor x plan ≡ inBytes (call x) plan
-    go (accepted j) e = held j (few j (accepted-job file j e))
+    go : (x : Answer) → readJob file ≡ x → planBytesFor by x plan ≡ inBytes (call x) plan
+    go (accepted j) e = held j (few j (accepted-job file j e)) (as-many rule j (accepted-job file j e))
     go (refused k) e = refl
 
 -- the checker from C: a refused file's own number, ..

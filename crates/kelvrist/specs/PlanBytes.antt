@@ -6,9 +6,10 @@ use lib.ListN.{length, getD, take, drop}
 use Rattle.base.specs.Choice.{pick}
 use Rattle.base.specs.Number.{number, bytes}
 use Rattle.base.specs.Lists.{upto}
+use Rattle.job.specs.Job.{Job}
 use Rattle.job.specs.Read.{Answer, accepted, refused, readJob}
-use Rattle.etf.specs.Instance.{tasks}
-use Rattle.etf.specs.OfJob.{instance}
+use Rattle.etf.specs.Instance.{Instance, tasks}
+use Rattle.etf.specs.OfJob.{instance, instanceByWeight}
 use Rattle.schedule.specs.Call.{startOf, processorOf}
 use Rattle.schedule.specs.Check.{checkOf, numberOf}
 
@@ -36,16 +37,24 @@ processorIn plan T = getD plan (5 * T) 0
 unfoldable pub startIn : List ℕ → ℕ → ℕ
 startIn plan T = number (take 4 (drop (5 * T + 1) plan))
 
--- 01: "9 if that is shorter than 5m"; "the planner fills the first 5m bytes"
-unfoldable pub planBytesFor : Answer → List ℕ → BytesCall
-planBytesFor (accepted j) plan =
+-- 01: "9 if that is shorter than 5m"; "the planner fills the first 5m bytes"; `by` is the job's instance, with its tie rule
+unfoldable pub planBytesFor : (Job → Instance) → Answer → List ℕ → BytesCall
+planBytesFor by (accepted j) plan =
     pick (ltb (length plan) (5 * tasks (instance j))) (returned 9 plan)
-    (returned 0 (planBytes (tasks (instance j)) (processorOf (instance j)) (startOf (instance j)) ++ drop (5 * tasks (instance j)) plan))
-planBytesFor (refused k) plan = returned k plan
+    (returned 0 (planBytes (tasks (instance j)) (processorOf (by j)) (startOf (by j)) ++ drop (5 * tasks (instance j)) plan))
+planBytesFor by (refused k) plan = returned k plan
 
--- the planner's call from C, for job bytes and plan bytes
-unfoldable pub planBytesCall : List ℕ → List ℕ → BytesCall
-planBytesCall file plan = planBytesFor (readJob file) plan
+-- a planner's call from C, for job bytes and plan bytes
+unfoldable pub planBytesCallBy : (Job → Instance) → List ℕ → List ℕ → BytesCall
+planBytesCallBy by file plan = planBytesFor by (readJob file) plan
+
+-- document 01's
+abbrev pub planBytesCall : List ℕ → List ℕ → BytesCall
+planBytesCall = planBytesCallBy instance
+
+-- 02 §6: the new entry from C, "with the larger entry's slices and refusals"
+abbrev pub weightBytesCall : List ℕ → List ℕ → BytesCall
+weightBytesCall = planBytesCallBy instanceByWeight
 
 -- 01: "Each returns 0 or the refusal's number": 9 "if that is shorter than 5m", a refused job's own number, else what the checker says
 -- of the plan's first 5m bytes

@@ -2,6 +2,7 @@
 use mathlib.Core.Path.{_∙_}
 use native.Mathlib.Omega.{arith}
 use borrow.Author.Needs.{needs}
+use Rattle.etf.specs.Jobs.{by-number}
 use Rattle.kelvrist.specs.Laws.InBytes.{larger-few, larger-in-bytes}
 use Rattle.kelvrist.proofs.kelvrist_plan.Statement.{statement}
 use Rattle.kelvrist.proofs.kelvrist_plan.Tie as tie
@@ -28,7 +29,7 @@ put-plan-requires : tie.Need-put-plan-requires
 put-plan-requires c κs =
     let at-plan = c .before .before .before .before .before .before in
     λ o h.
-    let few = larger-few _ (at-plan .plan .ensures) h in
+    let few = larger-few _ by-number (at-plan .plan .ensures) h in
     (few, omega (arith, few, at-plan .plan .kept .1 .0), omega (arith, few, at-plan .plan .kept .1 .1 .0))
 
 same-length : tie.Need-same-length
@@ -38,7 +39,7 @@ returns : tie.Need-returns
 returns c =
     let at-put = c .before .before in
     let at-plan = at-put .before .before .before .before .before .before .before in
-    at-put .put-plan .ensures ∙ larger-in-bytes _ _ (at-plan .plan .ensures)
+    at-put .put-plan .ensures ∙ larger-in-bytes _ by-number _ (at-plan .plan .ensures)
 
 pub kelvrist-plan-spec : {M : Type 1} → statement M
 kelvrist-plan-spec =

@@ -14,7 +14,7 @@ use Rattle.job.specs.Accepted.{Accepted}
 use Rattle.etf.specs.Instance.{Instance, tasks}
 use Rattle.etf.specs.Schedule.{placementOf}
 use Rattle.etf.specs.Rule.{planned}
-use Rattle.etf.specs.OfJob.{instance}
+use Rattle.etf.specs.OfJob.{instance, TieRule}
 use Rattle.etf.specs.Jobs.{well-formed, no-finish-passes}
 use Rattle.etf.specs.Laws.Planned.{home}
 use Rattle.schedule.specs.Call.{startOf, processorOf}
@@ -22,41 +22,47 @@ use Rattle.schedule.specs.Check.{numberOf}
 use Rattle.schedule.specs.Laws.Checker.Answer.{check-of-same}
 use Rattle.schedule.specs.Laws.Checker.OwnPlan.{own}
 use Rattle.kelvrist.specs.PlanBytes.{returned, planBytes, processorIn, startIn, planBytesFor, checkBytesFor}
+use Rattle.kelvrist.specs.Numbers.{as-many}
 use Rattle.kelvrist.specs.Laws.Encoded.{plan-size}
 use Rattle.kelvrist.specs.Laws.Decoded.{processor-back, start-back}
 
-module _ (j : Job) (a : Accepted j) where
+module _ {by : Job → Instance} (rule : TieRule by) (j : Job) (a : Accepted j) where
   abbrev I : Instance
-  I = instance j
+  I = by j
+
+  abbrev m : ℕ
+  m = tasks (instance j)
 
   -- a start of the planner's fits in 4 bytes
-  pub start-fits : (T : ℕ) → T < tasks I → startOf I T < 2 ^ 32
+  pub start-fits : (T : ℕ) → T < m → startOf I T < 2 ^ 32
   unfolding startOf
-  start-fits T h = omega (arith, no-finish-passes j a (placementOf (planned I) T) (home I (well-formed j a) T h .0))
+  start-fits T h =
+      let at-home = home I (well-formed rule j a) T (omega (arith, h, as-many rule j a)) in
+      omega (arith, no-finish-passes rule j a (placementOf (planned I) T) (at-home .0))
 
-  pub bytes-yes : (plan : List ℕ) → planBytesFor (accepted j) plan .number ≡ 0
-      → checkBytesFor (accepted j) (planBytesFor (accepted j) plan .plan) ≡ 0
+  pub bytes-yes : (plan : List ℕ) → planBytesFor by (accepted j) plan .number ≡ 0
+      → checkBytesFor (accepted j) (planBytesFor by (accepted j) plan .plan) ≡ 0
   unfolding planBytesFor checkBytesFor numberOf
-  bytes-yes plan h = go (ltb (length plan) (5 * tasks I)) refl h
+  bytes-yes plan h = go (ltb (length plan) (5 * m)) refl h
     where
       -- the bytes that are not filled
       rest : List ℕ
-      rest = drop (5 * tasks I) plan
+      rest = drop (5 * m) plan
 
       full : List ℕ
-      full = planBytes (tasks I) (processorOf I) (startOf I) ++ rest
+      full = planBytes m (processorOf I) (startOf I) ++ rest
 
-      size : length full ≡ 5 * tasks I + length rest
+      size : length full ≡ 5 * m + length rest
       size =
-          length-append (planBytes (tasks I) (processorOf I) (startOf I)) rest
-          ∙ ap (λ (n : ℕ). n + length rest) (plan-size (processorOf I) (startOf I) (tasks I))
+          length-append (planBytes m (processorOf I) (startOf I)) rest
+          ∙ ap (λ (n : ℕ). n + length rest) (plan-size (processorOf I) (startOf I) m)
 
-      go : (b : Bool) → ltb (length plan) (5 * tasks I) ≡ b → (pick b (returned 9 plan) (returned 0 full)) .number ≡ 0
+      go : (b : Bool) → ltb (length plan) (5 * m) ≡ b → (pick b (returned 9 plan) (returned 0 full)) .number ≡ 0
           → checkBytesFor (accepted j) ((pick b (returned 9 plan) (returned 0 full)) .plan) ≡ 0
       go true p w = absurd (omega arith)
       go false p w =
-          simp (le-ltb (length full) (5 * tasks I) (omega (arith, size)))
+          simp (le-ltb (length full) (5 * m) (omega (arith, size)))
           (ap numberOf
-          (check-of-same I (processorIn full) (processorOf I) (startIn full) (startOf I)
-          (processor-back (tasks I) (processorOf I) (startOf I) rest)
-          (λ T h. start-back (tasks I) (processorOf I) (startOf I) rest T h (start-fits T h)) ∙ own j a))
+          (check-of-same (instance j) (processorIn full) (processorOf I) (startIn full) (startOf I)
+          (processor-back m (processorOf I) (startOf I) rest)
+          (λ T h. start-back m (processorOf I) (startOf I) rest T h (start-fits T h)) ∙ own rule j a))
