@@ -5,7 +5,7 @@ use Rattle.base.specs.Text.{text}
 use Rattle.job.specs.Cases.{computed}
 use Rattle.etf.specs.Cases.{answer}
 use Rattle.schedule.specs.Call.{startOf, processorOf}
-use Rattle.schedule.specs.Plan.{endOf}
+use Rattle.schedule.specs.Plan.{endBy}
 use Rattle.schedule.specs.Cases.{file-a}
 use Rattle.listing.specs.Listing.{digits, decimal, field, line, header, taskLine, taskLines, figures}
 use Rattle.listing.specs.Listing.{planListing, refusalLine, listingFor, listing}
@@ -14,7 +14,7 @@ use Rattle.listing.specs.Listing.{planListing, refusalLine, listingFor, 
 pub printed : (listing file-a ≡ text "plan 2 3 2\n0 0 0 4\n1 1 0 3\n2 1 6 8\nend 8\ncover 6\ndearest 6\n")
     × (listing (1 ∷ 2 ∷ 0 ∷ []) ≡ text "refused 1\n")
 unfolding listing listingFor refusalLine planListing figures taskLines taskLine header line field decimal digits text startOf
-    processorOf endOf computed answer
+    processorOf endBy computed answer
 printed = (refl, refl)
 
 -- the digits of the least and the greatest number of 32 bits

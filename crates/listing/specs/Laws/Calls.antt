@@ -11,7 +11,7 @@ use Rattle.job.specs.Read.{accepted, readJob}
 use Rattle.job.specs.Accepted.{accepted-job}
 use Rattle.etf.specs.Instance.{Instance, tasks}
 use Rattle.etf.specs.OfJob.{instance}
-use Rattle.schedule.specs.Call.{Call, called, startOf, processorOf, scratchAt, arrivalPlaces, laidOut, planFor, callFor}
+use Rattle.schedule.specs.Call.{Call, called, startOf, processorOf, scratchAt, arrivalPlaces, laidOut, planBy, callFor}
 use Rattle.schedule.specs.Lent.{HasRoom}
 use Rattle.schedule.specs.Answered.{call-taken}
 
@@ -30,7 +30,7 @@ pub record LaidOut {R : Type 0} (answer : Job → R) (j : Job) (r : R) (starts p
 
 pub lays-out : {R : Type 0} (refuse : ℕ → R) (answer : Job → R) (file : List ℕ) (j : Job) → readJob file ≡ accepted j
     → {s p t s′ p′ t′ : List ℕ} {r : R} → Roomy s p t
-    → called r s′ p′ t′ ≡ callFor arrivalPlaces refuse (planFor answer) (readJob file) s p t → LaidOut answer j r s′ p′ t′
+    → called r s′ p′ t′ ≡ callFor arrivalPlaces refuse (planBy instance answer) (readJob file) s p t → LaidOut answer j r s′ p′ t′
 unfolding laidOut instance
 lays-out {R} refuse answer file j says {s} {p} {t} {s′} {p′} {t′} {r} room h = record {
   answer-is = ap (λ (c : Call R). c .answer) accepts;
@@ -59,5 +59,5 @@ lays-out {R} refuse answer file j says {s} {p} {t} {s′} {p′} {t′} {r} room
           for-scratch = omega (arith, room .for-arrivals);
         }
 
-    accepts : called r s′ p′ t′ ≡ planFor answer j s p t
-    accepts = h ∙ call-taken file s p t refuse answer (j, says, fits)
+    accepts : called r s′ p′ t′ ≡ planBy instance answer j s p t
+    accepts = h ∙ call-taken file s p t instance refuse answer (j, says, fits)

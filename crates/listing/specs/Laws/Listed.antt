@@ -21,7 +21,7 @@ use Rattle.etf.specs.Instance.{Instance, tasks, duration}
 use Rattle.etf.specs.Schedule.{placementOf}
 use Rattle.etf.specs.Rule.{planned}
 use Rattle.etf.specs.OfJob.{instance}
-use Rattle.etf.specs.Jobs.{well-formed, no-finish-passes}
+use Rattle.etf.specs.Jobs.{by-number, well-formed, no-finish-passes}
 use Rattle.etf.specs.Laws.Planned.{home}
 use Rattle.schedule.specs.declared.Planned.{Planned}
 use Rattle.schedule.specs.declared.Planned.the-variants.{Plan, Refused as NotPlanned}
@@ -29,8 +29,8 @@ use Rattle.schedule.specs.declared.Figures.{Figures}
 use Rattle.schedule.specs.declared.Covered.{Covered}
 use Rattle.schedule.specs.declared.Covered.the-variants.{Cover, Refused as NotCovered}
 use Rattle.schedule.specs.Call.{called, startOf, processorOf, arrivalPlaces}
-use Rattle.schedule.specs.Plan.{endOf, outcome, planCall}
-use Rattle.schedule.specs.Cover.{figures as figuresOf, coverCall}
+use Rattle.schedule.specs.Plan.{endOf, outcome, outcomeBy, planCall, planCallBy}
+use Rattle.schedule.specs.Cover.{figures as figuresOf, coverCall, coverCallBy}
 use Rattle.listing.specs.Listing.{line, header, taskLines, figures, planListing, refusalLine, listingFor, listing}
 use Rattle.listing.specs.Listing.{ListingCall, listed, putFirst, listingCall}
 use Rattle.listing.specs.Printed.{refused-text}
@@ -127,12 +127,12 @@ module _ (file : List ℕ) {x : Reading} {m l : ℕ} (e : x ≡ readingOf (readJ
       (a : length s₀ ≡ mostTasks) (b : length p₀ ≡ mostTasks) (d : length t₀ ≡ arrivalPlaces)
       (plans : called q s₁ p₁ t₁ ≡ planCall file s₀ p₀ t₀) (covers : called c s p t ≡ coverCall file s₁ p₁ t₁) where
     by-planner : LaidOut (λ j. Plan (outcome j)) job q s₁ p₁ t₁
-    unfolding planCall
+    unfolding planCallBy
     by-planner =
         lays-out NotPlanned (λ j. Plan (outcome j)) file job says (record { for-starts = a; for-processors = b; for-arrivals = d }) plans
 
     by-cover : LaidOut (λ j. Cover (figuresOf (instance j))) job c s p t
-    unfolding coverCall
+    unfolding coverCallBy
     by-cover = lays-out NotCovered (λ j. Cover (figuresOf (instance j))) file job says (by-planner .room) covers
 
     -- the arrays that the lines are read from are long enough
@@ -144,7 +144,7 @@ module _ (file : List ℕ) {x : Reading} {m l : ℕ} (e : x ≡ readingOf (readJ
     )
 
     end-is : endIn q ≡ endOf job
-    unfolding outcome
+    unfolding outcomeBy
     end-is = ap endIn (by-planner .answer-is)
 
     figures-are : figuresIn c ≡ figuresOf I
@@ -155,12 +155,12 @@ module _ (file : List ℕ) {x : Reading} {m l : ℕ} (e : x ≡ readingOf (readJ
     unfolding startOf instance
     finish-fits T k =
         let b : T < length (job .tasks) = omega (arith, tasks-are) in
-        let at-home = home I (well-formed job sound) T b in
+        let at-home = home I (well-formed by-number job sound) T b in
         omega (
           arith,
           by-cover .start-at T b,
           duration-at T,
-          no-finish-passes job sound (placementOf (planned I) T) (at-home .0),
+          no-finish-passes by-number job sound (placementOf (planned I) T) (at-home .0),
           ap (duration I) (at-home .1),
         )
 

@@ -18,12 +18,13 @@ use Rattle.etf.specs.Instance.{Instance, tasks}
 use Rattle.etf.specs.Schedule.{scheduleOf, byTask}
 use Rattle.etf.specs.Rule.{planned}
 use Rattle.etf.specs.OfJob.{instance}
+use Rattle.etf.specs.Jobs.{by-number}
 use Rattle.schedule.specs.declared.Outcome.{Outcome}
 use Rattle.schedule.specs.declared.Planned.{Planned}
 use Rattle.schedule.specs.declared.Planned.the-variants.{Plan, Refused as NotPlanned}
 use Rattle.schedule.specs.declared.Checked.the-variants.{Yes}
 use Rattle.schedule.specs.Call.{Call, called, startOf, processorOf, arrivalPlaces}
-use Rattle.schedule.specs.Plan.{outcome, planCall}
+use Rattle.schedule.specs.Plan.{outcome, planCall, planCallBy}
 use Rattle.schedule.specs.Check.{checkFor, checkCall}
 use Rattle.schedule.specs.Verdict.{planIn}
 use Rattle.schedule.specs.Answered.{call-refused}
@@ -49,15 +50,15 @@ module _ (file s p t : List ℕ) {r : Planned} {s′ p′ t′ : List ℕ}
     (plans : called r s′ p′ t′ ≡ planCall file s p t) where
   -- what it left and answered for an accepted job
   laid : (j : Job) → readJob file ≡ accepted j → LaidOut (λ j. Plan (outcome j)) j r s′ p′ t′
-  unfolding planCall
+  unfolding planCallBy
   laid j says =
       lays-out NotPlanned (λ j. Plan (outcome j)) file j says (record { for-starts = a; for-processors = b; for-arrivals = c }) plans
 
   -- what it answered for a refused one
   number-is : (k : ℕ) → readJob file ≡ refused k → r ≡ NotPlanned k
-  unfolding planCall
+  unfolding planCallBy
   number-is k says =
-      ap (λ (c : Call Planned). c .answer) (plans ∙ call-refused file s p t NotPlanned (λ j. Plan (outcome j)) k (inl says))
+      ap (λ (c : Call Planned). c .answer) (plans ∙ call-refused file s p t instance NotPlanned (λ j. Plan (outcome j)) k (inl says))
 
   -- ---- a refusal
 
@@ -88,7 +89,7 @@ module _ (file s p t : List ℕ) {r : Planned} {s′ p′ t′ : List ℕ}
     unfolding checkCall
     checks =
         let yes =
-        slices-accepted file s p t (outcome j) (ap (λ (c : Call Planned). c .answer) (sym plans) ∙ laid j says .answer-is) in
+        slices-accepted by-number file s p t (outcome j) (ap (λ (c : Call Planned). c .answer) (sym plans) ∙ laid j says .answer-is) in
         let e : checkCall file s′ p′ ≡ Yes = rw (← plans) at yes in
         ap (λ a. checkFor a s′ p′) (sym says) ∙ e
 
