@@ -3,10 +3,11 @@
 use mathlib.Core.Logic.{_↔_}
 use mathlib.Core.Path.{_≡_, refl, ap, sym, _∙_}
 use mathlib.Core.List.{List, _++_}
-use Prim.Native.Nat.{ℕ, _*_, _≤_, _<_}
+use Prim.Native.Nat.{ℕ, _+_, _*_, _≤_, _<_}
 use native.Mathlib.Omega.{arith}
 use lib.ListN.{length, getD, take, drop}
 use Rattle.base.specs.Number.{Bytes}
+use Rattle.base.specs.Lists.{greatest}
 use Rattle.base.specs.Slices.{filled}
 use Rattle.job.specs.declared.Arrays.{Arrays}
 use Rattle.job.specs.declared.Platform.{Platform}
@@ -16,61 +17,79 @@ use Rattle.job.specs.Read.{accepted, readJob, readingOf}
 use Rattle.job.specs.Write.{heldJob, Held, writeAnswer, writeOut}
 use Rattle.job.specs.Accepted.{accepted-job}
 use Rattle.job.specs.RoundTrip.{written-read, read-held, read-written}
-use Rattle.etf.specs.Instance.{tasks}
-use Rattle.etf.specs.Schedule.{placementOf, scheduleOf, end}
-use Rattle.etf.specs.Rule.{planned}
+use Rattle.etf.specs.Instance.{Instance, tasks, duration, outOf}
+use Rattle.etf.specs.Schedule.{Placement, placementOf, scheduleOf, end}
+use Rattle.etf.specs.Rule.{choice, planned}
 use Rattle.etf.specs.Cover.{cover}
 use Rattle.etf.specs.Dearest.{Chain, price, dearest}
 use Rattle.etf.specs.Checker.{Keeps}
 use Rattle.etf.specs.Walks.{CoverWalk}
-use Rattle.etf.specs.OfJob.{instance, resultOf}
-use Rattle.schedule.specs.declared.Planned.the-variants.{Plan, Refused as NotPlanned}
-use Rattle.schedule.specs.declared.Covered.the-variants.{Cover, Refused as NotCovered}
+use Rattle.etf.specs.Weight.{weight}
+use Rattle.etf.specs.OfJob.{instance, instanceByWeight, TieRule, resultOf}
+use Rattle.etf.specs.Priority.{HeavierFirst, ChoiceIs}
+use Rattle.etf.specs.Weights.{weight-rule, weight-only}
+use Rattle.etf.specs.Choices.{choice-by-number, choice-of-job}
+use Rattle.etf.specs.Jobs.{by-number, by-weight, well-formed}
+use Rattle.schedule.specs.declared.Planned.the-variants.{Plan}
+use Rattle.schedule.specs.declared.Covered.the-variants.{Cover}
 use Rattle.schedule.specs.declared.Checked.the-variants.{Yes}
 use Rattle.schedule.specs.declared.Outcome.{Outcome}
 use Rattle.schedule.specs.declared.Figures.{Figures}
-use Rattle.schedule.specs.Plan.{outcome, endOf, planCall}
+use Rattle.schedule.specs.Plan.{endBy, outcomeBy, planCallBy, planCall, weightCall}
 use Rattle.schedule.specs.Small.{smallCall}
 use Rattle.schedule.specs.SmallPlan.{same-plan, largerScratch, as-larger, scratch-zero, small-accepted}
-use Rattle.schedule.specs.Cover.{coverCall}
+use Rattle.schedule.specs.Cover.{coverCallBy, coverCall, weightCoverCall}
 use Rattle.schedule.specs.Cover.{figures as figuresOf}
 use Rattle.schedule.specs.Check.{checkCall}
 use Rattle.schedule.specs.OwnPlan.{slices-accepted}
-use Rattle.kelvrist.specs.PlanBytes.{processorIn, startIn, planBytesCall, checkBytesCall}
+use Rattle.kelvrist.specs.PlanBytes.{processorIn, startIn, planBytesCallBy, planBytesCall, weightBytesCall, checkBytesCall}
 use Rattle.kelvrist.specs.OwnPlan.{bytes-accepted}
-use Rattle.demands.specs.Laws.Answers.{planned-as, outcome-is, covered-as, figures-is, planAnswer, coverAnswer}
+use Rattle.demands.specs.Laws.Answers.{planned-as, outcome-is, covered-as, figures-is}
 use Rattle.listing.specs.Listing.{header, taskLines, figures, listing}
 use Rattle.demands.specs.Laws.Printed.{prints-calls}
-use Rattle.demands.specs.Laws.Kept.{slices-hold, same-slices, measured, bytes-as, yes-keeps, zero-keeps}
+use Rattle.demands.specs.Laws.Kept.{slices-hold, leaves-plan, measured, bytes-as, yes-keeps, zero-keeps}
 
 -- ---- 00: "The plan is the one that Algorithm ETF of Hwang, Chow, Anger and Lee gives with document 01's tie rule .."
 
--- the plan of a file as the planning rule gives it: m tasks, the end E, and the start and the processor of each task
-pub record ByTheRule (file : List ℕ) (m E : ℕ) (start processor : ℕ → ℕ) : Type 0 where
+-- the plan of a file as the planning rule gives it: m tasks, the end E, and the start and the processor of each task; `by` is the job's
+-- instance with its tie rule, document 01's (`instance`) or request §6's (`instanceByWeight`)
+pub record ByTheRule (by : Job → Instance) (file : List ℕ) (m E : ℕ) (start processor : ℕ → ℕ) : Type 0 where
   pub job : Job
   pub of-file : readJob file ≡ accepted job
   pub tasks-are : m ≡ tasks (instance job)
-  pub end-is : E ≡ end (instance job) (resultOf job) (planned (instance job))
-  pub starts-are : (T : ℕ) → T < m → start T ≡ placementOf (planned (instance job)) T .start
-  pub processors-are : (T : ℕ) → T < m → processor T ≡ placementOf (planned (instance job)) T .processor
+  pub end-is : E ≡ end (by job) (resultOf job) (planned (by job))
+  pub starts-are : (T : ℕ) → T < m → start T ≡ placementOf (planned (by job)) T .start
+  pub processors-are : (T : ℕ) → T < m → processor T ≡ placementOf (planned (by job)) T .processor
 
--- is what the planner's call reports and leaves in the slices
-pub plan-is-etf : (file starts processors scratch : List ℕ) (o : Outcome) → planCall file starts processors scratch .answer ≡ Plan o
-    → ByTheRule file (o .tasks) (o .end)
-    (λ T. getD (planCall file starts processors scratch .starts) T 0) (λ T. getD (planCall file starts processors scratch .processors) T 0)
-unfolding outcome endOf
-plan-is-etf file starts processors scratch o h =
-    let P = planned-as file starts processors scratch o h in
-    let reported = outcome-is file starts processors scratch P in
+-- is what a planner's call reports and leaves in the slices, by any tie rule
+pub plan-by-the-rule : {by : Job → Instance} → TieRule by → (file starts processors scratch : List ℕ) (o : Outcome)
+    → planCallBy by file starts processors scratch .answer ≡ Plan o
+    → ByTheRule by file (o .tasks) (o .end)
+    (λ T. getD (planCallBy by file starts processors scratch .starts) T 0)
+    (λ T. getD (planCallBy by file starts processors scratch .processors) T 0)
+unfolding outcomeBy endBy
+plan-by-the-rule {by} rule file starts processors scratch o h =
+    let P = planned-as by file starts processors scratch o h in
+    let reported = outcome-is by file starts processors scratch P in
     let m-is : o .tasks ≡ tasks (instance (P .job)) = ap (λ (x : Outcome). x .tasks) reported in
     record {
       job = P .job;
       of-file = P .says;
       tasks-are = m-is;
       end-is = ap (λ (x : Outcome). x .end) reported;
-      starts-are = λ T b. slices-hold P T (omega (arith, m-is)) .0;
-      processors-are = λ T b. slices-hold P T (omega (arith, m-is)) .1;
+      starts-are = λ T b. slices-hold rule P T (omega (arith, m-is)) .0;
+      processors-are = λ T b. slices-hold rule P T (omega (arith, m-is)) .1;
     }
+
+-- so of document 01's
+pub plan-is-etf : (file starts processors scratch : List ℕ) (o : Outcome) → planCall file starts processors scratch .answer ≡ Plan o
+    → ByTheRule instance file (o .tasks) (o .end)
+    (λ T. getD (planCall file starts processors scratch .starts) T 0) (λ T. getD (planCall file starts processors scratch .processors) T 0)
+plan-is-etf = plan-by-the-rule by-number
+
+-- whose choice is, in every round, 01: "Take the smallest start; ties go to the lowest step number, then the lowest board"
+pub choice-is : (j : Job) (cm : ℕ) (ps : List Placement) → ChoiceIs (instance j) (λ S T. S < T) cm ps (choice (instance j) cm ps)
+choice-is = choice-by-number
 
 -- 02 §4: "For each job it gives the same starts, boards and refusals as the larger entry": the planner for small controllers and the
 -- planner, each with room in its scratch, whatever the other slices are
@@ -84,7 +103,7 @@ small-as-planner file starts processors scratch larger a b =
 
 -- so its plan is the planning rule's, too, with nothing said of a larger scratch; its own is 0 in 512 places and else as it was
 module _ (file starts processors scratch : List ℕ) (o : Outcome) (h : smallCall file starts processors scratch .answer ≡ Plan o) where
-  pub small-is-etf : ByTheRule file (o .tasks) (o .end)
+  pub small-is-etf : ByTheRule instance file (o .tasks) (o .end)
       (λ T. getD (smallCall file starts processors scratch .starts) T 0)
       (λ T. getD (smallCall file starts processors scratch .processors) T 0)
   small-is-etf =
@@ -95,13 +114,13 @@ module _ (file starts processors scratch : List ℕ) (o : Outcome) (h : smallCal
   pub small-scratch : smallCall file starts processors scratch .scratch ≡ filled (λ x. 0) 512 scratch
   small-scratch = scratch-zero file starts processors scratch o h
 
--- and what the calls from C, which are one call, leave in the plan's bytes
-pub bytes-are-etf : (file plan : List ℕ) → planBytesCall file plan .number ≡ 0
-    → (m E : ℕ) × ByTheRule file m E (startIn (planBytesCall file plan .plan)) (processorIn (planBytesCall file plan .plan))
-bytes-are-etf file plan h =
-    let P = bytes-as file plan h in (
+-- and what a call from C leaves in the plan's bytes, by any tie rule
+pub bytes-by-the-rule : {by : Job → Instance} → TieRule by → (file plan : List ℕ) → planBytesCallBy by file plan .number ≡ 0
+    → (m E : ℕ) × ByTheRule by file m E (startIn (planBytesCallBy by file plan .plan)) (processorIn (planBytesCallBy by file plan .plan))
+bytes-by-the-rule {by} rule file plan h =
+    let P = bytes-as rule file plan h in (
       tasks (instance (P .job)),
-      end (instance (P .job)) (resultOf (P .job)) (planned (instance (P .job))),
+      end (by (P .job)) (resultOf (P .job)) (planned (by (P .job))),
       record {
         job = P .job;
         of-file = P .says;
@@ -112,42 +131,94 @@ bytes-are-etf file plan h =
       },
     )
 
+-- so of the two from C that give document 01's plan, which are one call
+pub bytes-are-etf : (file plan : List ℕ) → planBytesCall file plan .number ≡ 0
+    → (m E : ℕ) × ByTheRule instance file m E (startIn (planBytesCall file plan .plan)) (processorIn (planBytesCall file plan .plan))
+bytes-are-etf = bytes-by-the-rule by-number
+
+-- ---- 02 §6: the new entry "breaks ties in start by greater weight, then lower step number, then lower board; the old entry and its
+-- listings remain"
+
+-- what it reports and leaves in the slices is the planning rule's, with the tasks by weight
+pub weight-is-etf : (file starts processors scratch : List ℕ) (o : Outcome) → weightCall file starts processors scratch .answer ≡ Plan o
+    → ByTheRule instanceByWeight file (o .tasks) (o .end)
+    (λ T. getD (weightCall file starts processors scratch .starts) T 0)
+    (λ T. getD (weightCall file starts processors scratch .processors) T 0)
+weight-is-etf = plan-by-the-rule by-weight
+
+-- and what its call from C leaves in the plan's bytes
+pub weight-bytes-are-etf : (file plan : List ℕ) → weightBytesCall file plan .number ≡ 0
+    → (m E : ℕ)
+    × ByTheRule instanceByWeight file m E (startIn (weightBytesCall file plan .plan)) (processorIn (weightBytesCall file plan .plan))
+weight-bytes-are-etf = bytes-by-the-rule by-weight
+
+-- whose choice is, in every round, the smallest start, ties going "by greater weight, then lower step number, then lower board"
+pub weight-choice-is : (j : Job) (cm : ℕ) (ps : List Placement)
+    → ChoiceIs (instanceByWeight j) (HeavierFirst (weight (instance j))) cm ps (choice (instanceByWeight j) cm ps)
+weight-choice-is = choice-of-job
+
+-- 02 §6: "A step's weight is its duration plus the greatest weight among its successors, 0 if none", of every accepted job, ..
+pub weight-is : (file : List ℕ) (j : Job) → readJob file ≡ accepted j → (T : ℕ) → T < tasks (instance j)
+    → weight (instance j) T ≡ duration (instance j) T + greatest (λ e. weight (instance j) (e .to)) (outOf (instance j) T)
+weight-is file j e = weight-rule (instance j) (well-formed by-number j (accepted-job file j e))
+
+-- .. and nothing else is
+pub weight-alone : (file : List ℕ) (j : Job) → readJob file ≡ accepted j → (w : ℕ → ℕ)
+    → ((T : ℕ) → T < tasks (instance j) → w T ≡ duration (instance j) T + greatest (λ e. w (e .to)) (outOf (instance j) T))
+    → (T : ℕ) → T < tasks (instance j) → w T ≡ weight (instance j) T
+weight-alone file j e = weight-only (instance j) (well-formed by-number j (accepted-job file j e))
+
 -- ---- 00: ".. and the cover C is the one found by document 01's walk."
 
--- C and D of a file: the walk begins with the last task and adds up to C; no chain of the job's edges is dearer than D, and one is as dear
-pub record ByTheWalk (file : List ℕ) (C D : ℕ) : Type 0 where
+-- C and D of a file: the walk over the plan, by the tie rule of `by`, begins with the last task and adds up to C; no chain of the job's
+-- edges is dearer than D, and one is as dear
+pub record ByTheWalk (by : Job → Instance) (file : List ℕ) (C D : ℕ) : Type 0 where
   pub job : Job
   pub of-file : readJob file ≡ accepted job
-  pub cover-is : C ≡ cover (instance job)
-  pub walk : CoverWalk (instance job)
+  pub cover-is : C ≡ cover (by job)
+  pub walk : CoverWalk (by job)
   pub dearest-is : D ≡ dearest (instance job)
   pub none-dearer : (es : List Edge) → Chain (instance job) es → price (instance job) es ≤ D
   pub one-as-dear : (es : List Edge) × Chain (instance job) es × (price (instance job) es ≡ D)
 
-pub cover-is-walk : (file starts processors scratch : List ℕ) (f : Figures) → coverCall file starts processors scratch .answer ≡ Cover f
-    → ByTheWalk file (f .cover) (f .dearest)
+pub cover-by-the-walk : {by : Job → Instance} → TieRule by → (file starts processors scratch : List ℕ) (f : Figures)
+    → coverCallBy by file starts processors scratch .answer ≡ Cover f → ByTheWalk by file (f .cover) (f .dearest)
 unfolding figuresOf
-cover-is-walk file starts processors scratch f h =
-    let Q = covered-as file starts processors scratch f h in
-    let reported = figures-is file starts processors scratch Q in
-    let M = measured Q in
+cover-by-the-walk {by} rule file starts processors scratch f h =
+    let Q = covered-as by file starts processors scratch f h in
+    let reported = figures-is by file starts processors scratch Q in
+    let M = measured rule Q in
     record {
       job = Q .job;
       of-file = Q .says;
       cover-is = ap (λ (x : Figures). x .cover) reported;
       walk = M .walk-is;
-      dearest-is = ap (λ (x : Figures). x .dearest) reported;
+      dearest-is = M .dearest-is;
       none-dearer = M .no-chain-dearer;
       one-as-dear = M .a-chain-as-dear;
     }
 
--- the plan that it measures is the planner's: the slices hold what the planner leaves
+pub cover-is-walk : (file starts processors scratch : List ℕ) (f : Figures) → coverCall file starts processors scratch .answer ≡ Cover f
+    → ByTheWalk instance file (f .cover) (f .dearest)
+cover-is-walk = cover-by-the-walk by-number
+
+-- 02 §6: ".. and a cover call of its own": document 01's walk over the plan with the tasks by weight
+pub weight-cover-is-walk : (file starts processors scratch : List ℕ) (f : Figures)
+    → weightCoverCall file starts processors scratch .answer ≡ Cover f → ByTheWalk instanceByWeight file (f .cover) (f .dearest)
+weight-cover-is-walk = cover-by-the-walk by-weight
+
+-- the plan that each measures is its planner's: the slices hold what that planner leaves
 pub cover-leaves-plan : (file starts processors scratch : List ℕ)
     → (coverCall file starts processors scratch .starts ≡ planCall file starts processors scratch .starts)
     × (coverCall file starts processors scratch .processors ≡ planCall file starts processors scratch .processors)
     × (coverCall file starts processors scratch .scratch ≡ planCall file starts processors scratch .scratch)
-unfolding coverCall planCall
-cover-leaves-plan file starts processors scratch = same-slices NotCovered coverAnswer NotPlanned planAnswer file starts processors scratch
+cover-leaves-plan = leaves-plan instance
+
+pub weight-cover-leaves-plan : (file starts processors scratch : List ℕ)
+    → (weightCoverCall file starts processors scratch .starts ≡ weightCall file starts processors scratch .starts)
+    × (weightCoverCall file starts processors scratch .processors ≡ weightCall file starts processors scratch .processors)
+    × (weightCoverCall file starts processors scratch .scratch ≡ weightCall file starts processors scratch .scratch)
+weight-cover-leaves-plan = leaves-plan instanceByWeight
 
 -- what the program prints for the file is what the two calls, with any slices, leave and report
 pub printed-as-called : (file starts processors scratch : List ℕ) (o : Outcome) → planCall file starts processors scratch .answer ≡ Plan o
@@ -176,7 +247,13 @@ module _ (file : List ℕ) (j : Job) (e : readJob file ≡ accepted j) where
 -- so it accepts the planner's own plan, whatever the slices or the bytes held before
 pub own-plan-accepted : (file starts processors scratch : List ℕ) (o : Outcome) → planCall file starts processors scratch .answer ≡ Plan o
     → checkCall file (planCall file starts processors scratch .starts) (planCall file starts processors scratch .processors) ≡ Yes
-own-plan-accepted = slices-accepted
+own-plan-accepted = slices-accepted by-number
+
+-- 02 §6: and the plan of the new entry
+pub weight-plan-accepted : (file starts processors scratch : List ℕ) (o : Outcome)
+    → weightCall file starts processors scratch .answer ≡ Plan o
+    → checkCall file (weightCall file starts processors scratch .starts) (weightCall file starts processors scratch .processors) ≡ Yes
+weight-plan-accepted = slices-accepted by-weight
 
 pub small-plan-accepted : (file starts processors scratch : List ℕ) (o : Outcome)
     → smallCall file starts processors scratch .answer ≡ Plan o
@@ -185,7 +262,11 @@ small-plan-accepted = small-accepted
 
 pub own-bytes-accepted : (file plan : List ℕ) → planBytesCall file plan .number ≡ 0
     → checkBytesCall file (planBytesCall file plan .plan) ≡ 0
-own-bytes-accepted = bytes-accepted
+own-bytes-accepted = bytes-accepted by-number
+
+pub weight-bytes-accepted : (file plan : List ℕ) → weightBytesCall file plan .number ≡ 0
+    → checkBytesCall file (weightBytesCall file plan .plan) ≡ 0
+weight-bytes-accepted = bytes-accepted by-weight
 
 -- ---- 00: "A job that the writer takes, written out and read, is the same job .."
 

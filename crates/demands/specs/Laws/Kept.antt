@@ -17,46 +17,50 @@ use Rattle.job.specs.Refusal.{read-numbers, reader-number-some}
 use Rattle.etf.specs.Instance.{Instance, tasks}
 use Rattle.etf.specs.Schedule.{Placement, placementOf, scheduleOf}
 use Rattle.etf.specs.Rule.{planned}
-use Rattle.etf.specs.Dearest.{Chain, price}
+use Rattle.etf.specs.Dearest.{Chain, price, dearest}
 use Rattle.etf.specs.Checker.{Keeps, check, Because, no-processor, too-late, overlaps, too-early}
 use Rattle.etf.specs.Verdict.{yes-exactly, number-only}
 use Rattle.etf.specs.Walks.{CoverWalk, cover-walk}
 use Rattle.etf.specs.Chains.{none-dearer, one-as-dear}
-use Rattle.etf.specs.OfJob.{instance}
-use Rattle.etf.specs.Jobs.{well-formed}
+use Rattle.etf.specs.OfJob.{instance, TieRule}
+use Rattle.etf.specs.Jobs.{by-number, well-formed, dearest-same}
+use Rattle.schedule.specs.declared.Planned.the-variants.{Refused as NotPlanned}
+use Rattle.schedule.specs.declared.Covered.the-variants.{Cover, Refused as NotCovered}
 use Rattle.schedule.specs.declared.Checked.the-variants.{Yes}
 use Rattle.schedule.specs.declared.Outcome.{Outcome}
 use Rattle.schedule.specs.declared.Figures.{Figures}
 use Rattle.schedule.specs.Call.{Call, startOf, processorOf, laidOut}
-use Rattle.schedule.specs.Plan.{planCall}
-use Rattle.schedule.specs.Cover.{figures}
+use Rattle.schedule.specs.Plan.{planCallBy}
+use Rattle.schedule.specs.Cover.{figures, coverCallBy}
 use Rattle.schedule.specs.Check.{checkOf, checkedAs, numberOf, checkFor, checkCall}
-use Rattle.kelvrist.specs.PlanBytes.{planBytes, processorIn, startIn, planBytesFor, planBytesCall, checkBytesFor, checkBytesCall}
+use Rattle.kelvrist.specs.PlanBytes.{planBytes, processorIn, startIn, planBytesFor, planBytesCallBy, checkBytesFor, checkBytesCall}
+use Rattle.kelvrist.specs.Numbers.{as-many}
 use Rattle.kelvrist.specs.Laws.Decoded.{processor-back, start-back}
 use Rattle.kelvrist.specs.Laws.OwnPlan.{start-fits}
-use Rattle.schedule.specs.Answered.{SlicesRefused, SlicesTaken, slices, callOf, call-refused, call-taken}
-use Rattle.demands.specs.Laws.Answers.{PlannedAs, CoveredAs, figures-is}
+use Rattle.schedule.specs.Answered.{SlicesRefused, SlicesTaken, slices, callOf, call-refused, call-taken, one-job}
+use Rattle.demands.specs.Laws.Answers.{planAnswer, coverAnswer, PlannedAs, CoveredAs, covered-as, figures-is}
 
 -- ---- the planner's slices
 
 -- after an acceptance each task's place holds the rule's start and processor
-pub slices-hold : {file starts processors scratch : List ℕ} {o : Outcome} (P : PlannedAs file starts processors scratch o) (T : ℕ)
-    → T < tasks (instance (P .job))
-    → (getD (planCall file starts processors scratch .starts) T 0 ≡ placementOf (planned (instance (P .job))) T .start)
-    × (getD (planCall file starts processors scratch .processors) T 0 ≡ placementOf (planned (instance (P .job))) T .processor)
-unfolding planCall laidOut startOf processorOf
-slices-hold {starts = starts} {processors = processors} P T b =
-    let I = instance (P .job) in
+pub slices-hold : {by : Job → Instance} → TieRule by → {file starts processors scratch : List ℕ} {o : Outcome}
+    (P : PlannedAs by file starts processors scratch o) (T : ℕ) → T < tasks (instance (P .job))
+    → (getD (planCallBy by file starts processors scratch .starts) T 0 ≡ placementOf (planned (by (P .job))) T .start)
+    × (getD (planCallBy by file starts processors scratch .processors) T 0 ≡ placementOf (planned (by (P .job))) T .processor)
+unfolding planCallBy laidOut startOf processorOf
+slices-hold {by} rule {file} {starts} {processors} P T h =
+    let I = by (P .job) in
+    let b : T < tasks I = omega (arith, h, as-many rule (P .job) (accepted-job file (P .job) (P .says))) in
     rw (P .call-is) (filled-at (startOf I) (tasks I) starts T b, filled-at (processorOf I) (tasks I) processors T b)
 
--- two calls on the same slices leave the same in them, whatever they answer
-module _ {A B : Type 0} (refuse : ℕ → A) (answer : Job → A) (refuse₂ : ℕ → B) (answer₂ : Job → B)
+-- two calls on the same slices, by one tie rule, leave the same in them, whatever they answer
+module _ {A B : Type 0} (by : Job → Instance) (refuse : ℕ → A) (answer : Job → A) (refuse₂ : ℕ → B) (answer₂ : Job → B)
     (file starts processors scratch : List ℕ) where
   abbrev first : Call A
-  first = callOf file starts processors scratch refuse answer
+  first = callOf file starts processors scratch by refuse answer
 
   abbrev second : Call B
-  second = callOf file starts processors scratch refuse₂ answer₂
+  second = callOf file starts processors scratch by refuse₂ answer₂
 
   pub same-slices : (first .starts ≡ second .starts) × (first .processors ≡ second .processors) × (first .scratch ≡ second .scratch)
   unfolding laidOut
@@ -65,67 +69,89 @@ module _ {A B : Type 0} (refuse : ℕ → A) (answer : Job → A) (refuse₂ : �
       go : ((k : ℕ) × SlicesRefused file starts processors scratch k) ⊎ SlicesTaken file starts processors scratch
           → (first .starts ≡ second .starts) × (first .processors ≡ second .processors) × (first .scratch ≡ second .scratch)
       go (inl (k, r)) =
-          let a = call-refused file starts processors scratch refuse answer k r in
-          let b = call-refused file starts processors scratch refuse₂ answer₂ k r in
+          let a = call-refused file starts processors scratch by refuse answer k r in
+          let b = call-refused file starts processors scratch by refuse₂ answer₂ k r in
           rw (a, b) (refl, refl, refl)
       go (inr a) =
-          rw (call-taken file starts processors scratch refuse answer a, call-taken file starts processors scratch refuse₂ answer₂ a)
+          rw (call-taken file starts processors scratch by refuse answer a, call-taken file starts processors scratch by refuse₂ answer₂ a)
           (refl, refl, refl)
+
+-- the planner and its cover call are two such
+pub leaves-plan : (by : Job → Instance) (file starts processors scratch : List ℕ)
+    → (coverCallBy by file starts processors scratch .starts ≡ planCallBy by file starts processors scratch .starts)
+    × (coverCallBy by file starts processors scratch .processors ≡ planCallBy by file starts processors scratch .processors)
+    × (coverCallBy by file starts processors scratch .scratch ≡ planCallBy by file starts processors scratch .scratch)
+unfolding coverCallBy planCallBy
+leaves-plan by = same-slices by NotCovered (coverAnswer by) NotPlanned (planAnswer by)
 
 -- ---- the cover call's two numbers
 
--- the walk that adds up to C, and what makes D the dearest chain
-pub record Measured (I : Instance) (D : ℕ) : Type 0 where
-  pub walk-is : CoverWalk I
-  pub no-chain-dearer : (es : List Edge) → Chain I es → price I es ≤ D
-  pub a-chain-as-dear : (es : List Edge) × Chain I es × (price I es ≡ D)
+-- the walk that adds up to C, and what makes D the job's dearest chain, whatever the tie rule
+pub record Measured (by : Job → Instance) (j : Job) (D : ℕ) : Type 0 where
+  pub walk-is : CoverWalk (by j)
+  pub dearest-is : D ≡ dearest (instance j)
+  pub no-chain-dearer : (es : List Edge) → Chain (instance j) es → price (instance j) es ≤ D
+  pub a-chain-as-dear : (es : List Edge) × Chain (instance j) es × (price (instance j) es ≡ D)
 
-pub measured : {file starts processors scratch : List ℕ} {f : Figures} (Q : CoveredAs file starts processors scratch f)
-    → Measured (instance (Q .job)) (f .dearest)
+pub measured : {by : Job → Instance} → TieRule by → {file starts processors scratch : List ℕ} {f : Figures}
+    (Q : CoveredAs by file starts processors scratch f) → Measured by (Q .job) (f .dearest)
 unfolding figures
-measured {file = file} {starts} {processors} {scratch} {f} Q =
+measured {by} rule {file} {starts} {processors} {scratch} {f} Q =
     let I = instance (Q .job) in
-    let W = well-formed (Q .job) (accepted-job file (Q .job) (Q .says)) in
-    let d = ap (λ (g : Figures). g .dearest) (figures-is file starts processors scratch Q) in
+    let a = accepted-job file (Q .job) (Q .says) in
+    let d = ap (λ (g : Figures). g .dearest) (figures-is by file starts processors scratch Q) ∙ dearest-same rule (Q .job) a in
     let top = one-as-dear I in
     record {
-      walk-is = cover-walk I W;
-      no-chain-dearer = λ es c. omega (arith, d, none-dearer I W es c);
+      walk-is = cover-walk (by (Q .job)) (well-formed rule (Q .job) a);
+      dearest-is = d;
+      no-chain-dearer = λ es c. omega (arith, d, none-dearer I (well-formed by-number (Q .job) a) es c);
       a-chain-as-dear = (top .0, top .1, top .2 ∙ sym d);
     }
 
+-- two cover calls on one file, by whichever tie rules and with any slices, report one dearest chain
+pub same-dearest : {by by₂ : Job → Instance} → TieRule by → TieRule by₂ → (file : List ℕ) (f g : Figures)
+    → (starts processors scratch : List ℕ) → coverCallBy by file starts processors scratch .answer ≡ Cover f
+    → (starts₂ processors₂ scratch₂ : List ℕ) → coverCallBy by₂ file starts₂ processors₂ scratch₂ .answer ≡ Cover g
+    → f .dearest ≡ g .dearest
+same-dearest {by} {by₂} rule rule₂ file f g starts processors scratch c starts₂ processors₂ scratch₂ d =
+    let Q = covered-as by file starts processors scratch f c in
+    let R = covered-as by₂ file starts₂ processors₂ scratch₂ g d in
+    let one = ap (λ (i : Job). dearest (instance i)) (one-job (Q .says) (R .says)) in
+    measured rule Q .dearest-is ∙ one ∙ sym (measured rule₂ R .dearest-is)
+
 -- ---- the plan's bytes
 
--- what the call from C says by 0: the file is accepted, and each task's five bytes are the rule's start and processor
-pub record BytesAs (file plan : List ℕ) : Type 0 where
+-- what a call from C says by 0: the file is accepted, and each task's five bytes are the rule's start and processor
+pub record BytesAs (by : Job → Instance) (file plan : List ℕ) : Type 0 where
   pub job : Job
   pub says : readJob file ≡ accepted job
   pub starts-hold : (T : ℕ) → T < tasks (instance job)
-      → startIn (planBytesCall file plan .plan) T ≡ placementOf (planned (instance job)) T .start
+      → startIn (planBytesCallBy by file plan .plan) T ≡ placementOf (planned (by job)) T .start
   pub processors-hold : (T : ℕ) → T < tasks (instance job)
-      → processorIn (planBytesCall file plan .plan) T ≡ placementOf (planned (instance job)) T .processor
+      → processorIn (planBytesCallBy by file plan .plan) T ≡ placementOf (planned (by job)) T .processor
 
-pub bytes-as : (file plan : List ℕ) → planBytesCall file plan .number ≡ 0 → BytesAs file plan
-unfolding planBytesCall planBytesFor startOf processorOf
-bytes-as file plan h = go (readJob file) refl h
+pub bytes-as : {by : Job → Instance} → TieRule by → (file plan : List ℕ) → planBytesCallBy by file plan .number ≡ 0 → BytesAs by file plan
+unfolding planBytesCallBy planBytesFor startOf processorOf
+bytes-as {by} rule file plan h = go (readJob file) refl h
   where
     held : (j : Job) → readJob file ≡ accepted j → (5 * tasks (instance j) ≤ length plan) ⊎ (length plan < 5 * tasks (instance j))
-        → planBytesFor (accepted j) plan .number ≡ 0 → BytesAs file plan
+        → planBytesFor by (accepted j) plan .number ≡ 0 → BytesAs by file plan
     held j e (inl p) w =
-        let I = instance j in
-        let full : planBytesCall file plan .plan ≡ planBytes (tasks I) (processorOf I) (startOf I) ++ drop (5 * tasks I) plan =
-        rw (e, planBytesFor, le-ltb (length plan) (5 * tasks I) p) in
+        let I = by j in
+        let m = tasks (instance j) in
+        let full : planBytesCallBy by file plan .plan ≡ planBytes m (processorOf I) (startOf I) ++ drop (5 * m) plan =
+        rw (e, planBytesFor, le-ltb (length plan) (5 * m) p) in
         record {
           job = j;
           says = e;
           starts-hold = λ T b.
-              let fits = start-fits j (accepted-job file j e) T b in
-              rw full (start-back (tasks I) (processorOf I) (startOf I) (drop (5 * tasks I) plan) T b fits);
-          processors-hold = λ T b. rw full (processor-back (tasks I) (processorOf I) (startOf I) (drop (5 * tasks I) plan) T b);
+              let fits = start-fits rule j (accepted-job file j e) T b in
+              rw full (start-back m (processorOf I) (startOf I) (drop (5 * m) plan) T b fits);
+          processors-hold = λ T b. rw full (processor-back m (processorOf I) (startOf I) (drop (5 * m) plan) T b);
         }
     held j e (inr p) w = let v : _≡_ {A = ℕ} 9 0 = rw (lt-ltb (length plan) (5 * tasks (instance j)) p) at w in absurd (omega arith)
 
-    go : (a : Answer) → readJob file ≡ a → planBytesFor a plan .number ≡ 0 → BytesAs file plan
+    go : (a : Answer) → readJob file ≡ a → planBytesFor by a plan .number ≡ 0 → BytesAs by file plan
     go (accepted j) e w = held j e (le-or-lt (5 * tasks (instance j)) (length plan)) w
     go (refused k) e w = absurd (omega (arith, reader-number-some (read-numbers file k e), w))
 

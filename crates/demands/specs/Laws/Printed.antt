@@ -12,12 +12,13 @@ use Rattle.etf.specs.Instance.{duration}
 use Rattle.etf.specs.Cover.{cover}
 use Rattle.etf.specs.Dearest.{dearest}
 use Rattle.etf.specs.OfJob.{instance}
+use Rattle.etf.specs.Jobs.{by-number}
 use Rattle.schedule.specs.declared.Planned.the-variants.{Plan}
 use Rattle.schedule.specs.declared.Covered.the-variants.{Cover}
 use Rattle.schedule.specs.declared.Outcome.{Outcome}
 use Rattle.schedule.specs.declared.Figures.{Figures}
 use Rattle.schedule.specs.Call.{startOf, processorOf}
-use Rattle.schedule.specs.Plan.{outcome, planCall}
+use Rattle.schedule.specs.Plan.{outcomeBy, planCall}
 use Rattle.schedule.specs.Cover.{coverCall}
 use Rattle.schedule.specs.Cover.{figures as figuresOf}
 use Rattle.listing.specs.Listing.{refusalLine, header, taskLines, figures, planListing, listingFor, listing}
@@ -48,13 +49,13 @@ module _ (file starts processors scratch : List ℕ) (o : Outcome) (p : planCall
       → (j : Job) × (readJob file ≡ accepted j)
       × (listing file ≡ header (j .platform .processors) (o .tasks) (length (j .edges))
       ++ (taskLines (o .tasks) processor start (λ T. getD (j .tasks) T 0) ++ figures (o .end) (f .cover) (f .dearest)))
-  unfolding listing listingFor planListing instance duration startOf processorOf outcome figuresOf
+  unfolding listing listingFor planListing instance duration startOf processorOf outcomeBy figuresOf
   prints-calls starts₂ processors₂ scratch₂ f c =
-      let P = planned-as file starts processors scratch o p in
-      let Q = covered-as file starts₂ processors₂ scratch₂ f c in
+      let P = planned-as instance file starts processors scratch o p in
+      let Q = covered-as instance file starts₂ processors₂ scratch₂ f c in
       let j = P .job in
-      let planned-so = outcome-is file starts processors scratch P in
-      let covered-so = figures-is file starts₂ processors₂ scratch₂ Q in
+      let planned-so = outcome-is instance file starts processors scratch P in
+      let covered-so = figures-is instance file starts₂ processors₂ scratch₂ Q in
       let same : figuresOf (instance (Q .job)) ≡ figuresOf (instance j) =
       ap (λ (i : Job). figuresOf (instance i)) (one-job (Q .says) (P .says)) in
       let m-is : o .tasks ≡ length (j .tasks) = ap (λ (x : Outcome). x .tasks) planned-so in
@@ -62,7 +63,7 @@ module _ (file starts processors scratch : List ℕ) (o : Outcome) (p : planCall
       ≡ header (j .platform .processors) (length (j .tasks)) (length (j .edges)) = header-same refl m-is refl in
       let lines : taskLines (o .tasks) processor start (λ T. getD (j .tasks) T 0)
       ≡ taskLines (length (j .tasks)) (processorOf (instance j)) (startOf (instance j)) (duration (instance j)) =
-      lines-same _ _ _ _ _ _ m-is (λ T h. slices-hold P T h .1) (λ T h. slices-hold P T h .0) (λ T h. refl) in (
+      lines-same _ _ _ _ _ _ m-is (λ T h. slices-hold by-number P T h .1) (λ T h. slices-hold by-number P T h .0) (λ T h. refl) in (
         j,
         P .says,
         ap listingFor (P .says)
