@@ -14,7 +14,7 @@ ghost use Rattle.job.specs.Read.{readJob, readingOf};
 ghost use Rattle.schedule.specs.declared.Outcome.{Outcome};
 ghost use Rattle.schedule.specs.declared.Planned.the-variants.{Plan};
 ghost use Rattle.schedule.specs.Call.{called};
-ghost use Rattle.kelvrist.specs.PlanBytes.{returned, planBytesCall, checkBytesCall};
+ghost use Rattle.kelvrist.specs.PlanBytes.{returned, planBytesCall, weightBytesCall, checkBytesCall};
 ghost use Rattle.kelvrist.specs.PageBytes.{pageNumber, drew, pageBytesCall};
 ghost use Rattle.kelvrist.specs.Numbers.{planNumber, checkNumber, inBytes};
 ghost use Rattle.kelvrist.specs.Pass.{Taken};
@@ -113,6 +113,18 @@ pub extern "C" fn kelvrist_plan_small(job: &[u8], plan: &mut [u8]) -> u32
     let mut processors = [0u8; 256];
     let mut scratch = [0u32; 512];
     let planned = schedule::plan_small(job, &mut starts, &mut processors, &mut scratch);
+    put_plan(planned, &starts, &processors, plan)
+}
+
+// The same with ties in start to the task with the longest work left (02 §6).
+#[no_mangle]
+pub extern "C" fn kelvrist_plan_by_weight(job: &[u8], plan: &mut [u8]) -> u32
+    ensures { λ r. ⌜ returned r (now (plan .exit)) ≡ weightBytesCall (now (job .entry)) (now (plan .entry)) ⌝ }
+{
+    let mut starts = [0u32; 256];
+    let mut processors = [0u8; 256];
+    let mut scratch = [0u32; 4096];
+    let planned = schedule::plan_by_weight(job, &mut starts, &mut processors, &mut scratch);
     put_plan(planned, &starts, &processors, plan)
 }
 
