@@ -3,6 +3,7 @@ mod encoding;
 
 use gantt::Drawn;
 use job::Verdict;
+use priority::Ties;
 use schedule::Checked;
 use schedule::Planned;
 ghost use mathlib.Core.Path.{_≡_};
@@ -11,10 +12,11 @@ ghost use Prim.Native.Nat.{_≤_};
 ghost use lib.ListN.{length};
 ghost use Rattle.job.specs.Limits.{mostTasks};
 ghost use Rattle.job.specs.Read.{readJob, readingOf};
+ghost use Rattle.priority.specs.Orders.{instanceBy};
 ghost use Rattle.schedule.specs.declared.Outcome.{Outcome};
 ghost use Rattle.schedule.specs.declared.Planned.the-variants.{Plan};
 ghost use Rattle.schedule.specs.Call.{called};
-ghost use Rattle.kelvrist.specs.PlanBytes.{returned, planBytesCall, weightBytesCall, checkBytesCall};
+ghost use Rattle.kelvrist.specs.PlanBytes.{returned, planBytesCallBy, planBytesCall, weightBytesCall, checkBytesCall};
 ghost use Rattle.kelvrist.specs.PageBytes.{pageNumber, drew, pageBytesCall};
 ghost use Rattle.kelvrist.specs.Numbers.{planNumber, checkNumber, inBytes};
 ghost use Rattle.kelvrist.specs.Pass.{Taken};
@@ -92,19 +94,35 @@ fn put_plan(planned: Planned, starts: &[u32], processors: &[u8], plan: &mut [u8]
     0
 }
 
+// Plans the job of `job` into 5 bytes a task of `plan`, ties in start going by `ties`: 0, or the refusal's number. The arrays stand here,
+// once for both calls that plan so.
+fn plan_by(ties: Ties, job: &[u8], plan: &mut [u8]) -> u32
+    ensures { λ r. ⌜ returned r (now (plan .exit)) ≡ planBytesCallBy (instanceBy ties) (now (job .entry)) (now (plan .entry)) ⌝ }
+{
+    let mut starts = [0u32; 256];
+    let mut processors = [0u8; 256];
+    let mut scratch = [0u32; 4096];
+    let planned = schedule::plan_by(ties, job, &mut starts, &mut processors, &mut scratch);
+    put_plan(planned, &starts, &processors, plan)
+}
+
 // Plans the job of `job` into 5 bytes a task of `plan`: 0, or the refusal's number.
 #[no_mangle]
 pub extern "C" fn kelvrist_plan(job: &[u8], plan: &mut [u8]) -> u32
     ensures { λ r. ⌜ returned r (now (plan .exit)) ≡ planBytesCall (now (job .entry)) (now (plan .entry)) ⌝ }
 {
-    let mut starts = [0u32; 256];
-    let mut processors = [0u8; 256];
-    let mut scratch = [0u32; 4096];
-    let planned = schedule::plan(job, &mut starts, &mut processors, &mut scratch);
-    put_plan(planned, &starts, &processors, plan)
+    plan_by(Ties::Number, job, plan)
 }
 
-// The same number and bytes with less memory (02 §4): arrivals are worked out when they are wanted.
+// The same as `kelvrist_plan` with ties in start to the task with the longest work left (02 §6).
+#[no_mangle]
+pub extern "C" fn kelvrist_plan_by_weight(job: &[u8], plan: &mut [u8]) -> u32
+    ensures { λ r. ⌜ returned r (now (plan .exit)) ≡ weightBytesCall (now (job .entry)) (now (plan .entry)) ⌝ }
+{
+    plan_by(Ties::Weight, job, plan)
+}
+
+// The number and bytes of `kelvrist_plan` with less memory (02 §4): arrivals are worked out when they are wanted.
 #[no_mangle]
 pub extern "C" fn kelvrist_plan_small(job: &[u8], plan: &mut [u8]) -> u32
     ensures { λ r. ⌜ returned r (now (plan .exit)) ≡ planBytesCall (now (job .entry)) (now (plan .entry)) ⌝ }
@@ -113,18 +131,6 @@ pub extern "C" fn kelvrist_plan_small(job: &[u8], plan: &mut [u8]) -> u32
     let mut processors = [0u8; 256];
     let mut scratch = [0u32; 512];
     let planned = schedule::plan_small(job, &mut starts, &mut processors, &mut scratch);
-    put_plan(planned, &starts, &processors, plan)
-}
-
-// The same with ties in start to the task with the longest work left (02 §6).
-#[no_mangle]
-pub extern "C" fn kelvrist_plan_by_weight(job: &[u8], plan: &mut [u8]) -> u32
-    ensures { λ r. ⌜ returned r (now (plan .exit)) ≡ weightBytesCall (now (job .entry)) (now (plan .entry)) ⌝ }
-{
-    let mut starts = [0u32; 256];
-    let mut processors = [0u8; 256];
-    let mut scratch = [0u32; 4096];
-    let planned = schedule::plan_by_weight(job, &mut starts, &mut processors, &mut scratch);
     put_plan(planned, &starts, &processors, plan)
 }
 

@@ -10,9 +10,7 @@ use Rattle.base.specs.Choice.{pick}
 use Rattle.base.specs.Lists.{values, upto, filter}
 use Rattle.base.specs.Rows.{sum, one-if, most}
 use Rattle.job.specs.Limits.{mostDuration}
-use Rattle.job.specs.Job.{Job}
-use Rattle.etf.specs.Instance.{Instance, ordered, tasks}
-use Rattle.etf.specs.OfJob.{instance}
+use Rattle.etf.specs.Instance.{Instance, tasks}
 use Rattle.priority.specs.declared.Ties.{Ties}
 use Rattle.priority.specs.Orders.{orderBy}
 use Rattle.etf.specs.Bounds.{mostMessageTime, mostFinish}
@@ -213,10 +211,6 @@ pub record ToDeliver (m last : ℕ) (durations results : List ℕ) (costs : List
 -- the instance in arrays, its tasks by a tie rule
 abbrev pub tiedBy : Ties → InArrays → InArrays
 tiedBy ties A = reordered (λ i. getD (orderBy ties (instanceIn A)) i 0) A
-
--- a job's instance, its tasks by a tie rule
-unfoldable pub instanceBy : Ties → Job → Instance
-instanceBy ties j = ordered (orderBy ties (instance j)) (instance j)
 
 -- ---- the slices
 

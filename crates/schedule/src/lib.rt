@@ -12,13 +12,14 @@ use job::Verdict;
 use priority::Ties;
 ghost use mathlib.Core.Path.{_≡_};
 ghost use Prim.Native.Nat.{ℕ};
+ghost use Rattle.priority.specs.Orders.{instanceBy};
 ghost use Rattle.schedule.specs.InArrays.{reordered, byNumber, instanceIn, Plannable};
 ghost use Rattle.schedule.specs.Call.{called};
 ghost use Rattle.schedule.specs.Plan.{planCallBy, planCall, weightCall};
 ghost use Rattle.schedule.specs.Small.{smallCall};
 ghost use Rattle.schedule.specs.Cover.{figures, coverCallBy, coverCall, weightCoverCall};
 ghost use Rattle.schedule.specs.Check.{checkCall, judgeCall};
-ghost use Rattle.schedule.specs.Pass.{shortOf, tiedBy, instanceBy, layCall, said};
+ghost use Rattle.schedule.specs.Pass.{shortOf, tiedBy, layCall, said};
 ghost use Rattle.schedule.specs.SmallPass.{laySmall};
 ghost use Rattle.schedule.specs.CoverPass.{HoldsIn};
 
@@ -118,8 +119,8 @@ fn lay_out<'a>(
     ))
 }
 
-// Plans the job of a file; ties in start go by `ties`.
-fn plan_by(
+// Plans the job of a file; ties in start go by `ties`. The two entries below are this one.
+pub fn plan_by(
     ties: Ties,
     file: &[u8],
     starts: &mut [u32],

@@ -192,7 +192,8 @@ fn look(
     }
 }
 
-// Raises the arrivals of a task by what one predecessor sends to it.
+// Raises the arrivals of a task by what one predecessor sends to it. Each is stored, raised or not: with no store that hangs on a test the
+// processors go four at a time, wherever the arrivals stand.
 pub fn raise(arrivals: &mut [u32], task: usize, n: usize, finish: u32, count: u32, row: &[u32])
     requires { ⌜ (task < 256) × (n ≤ 16) × (16 * task + n ≤ length (now arrivals)) × (length (now row) ≡ 16) ⌝ }
     requires { ⌜ (finish ≤ mostFinish) × ((P : ℕ) → count * getD (now row) P 0 ≤ mostMessageTime) ⌝ }
@@ -201,9 +202,9 @@ pub fn raise(arrivals: &mut [u32], task: usize, n: usize, finish: u32, count: u3
     let mut p: usize = 0;
     while p < n {
         let arrival = finish + count * row[p];
-        if arrivals[16 * task + p] < arrival {
-            arrivals[16 * task + p] = arrival;
-        }
+        let at = 16 * task + p;
+        let before = arrivals[at];
+        arrivals[at] = if before < arrival { arrival } else { before };
         p += 1;
     }
 }

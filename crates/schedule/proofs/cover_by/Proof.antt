@@ -2,12 +2,12 @@
 use borrow.Author.Needs.{needs}
 use Rattle.job.specs.Job.{Job}
 use Rattle.priority.specs.declared.Ties.{Ties}
+use Rattle.priority.specs.Orders.{instanceBy, tie-rule}
 use Rattle.schedule.specs.declared.Covered.{Covered}
 use Rattle.schedule.specs.declared.Covered.the-variants.{Cover, Refused}
 use Rattle.schedule.specs.Call.{arrivalPlaces, planBy}
 use Rattle.schedule.specs.Cover.{figures, coverCallBy}
-use Rattle.schedule.specs.Pass.{instanceBy}
-use Rattle.schedule.specs.Laws.Ties.{tie-rule, plannable-by, instance-by, held-in}
+use Rattle.schedule.specs.Laws.Ties.{plannable-by, instance-by, held-in}
 use Rattle.schedule.specs.Laws.Reading.{read-as, instance-held, plannable}
 use Rattle.schedule.specs.Laws.Calls.{passes-on, call-short, call-end, laid-holds, measured-right}
 use Rattle.schedule.proofs.cover_by.Statement.{statement}

@@ -4,12 +4,12 @@ use borrow.Author.Needs.{needs}
 use Rattle.job.specs.Job.{Job}
 use Rattle.etf.specs.OfJob.{resultOf}
 use Rattle.priority.specs.declared.Ties.{Ties}
+use Rattle.priority.specs.Orders.{instanceBy, tie-rule}
 use Rattle.schedule.specs.declared.Planned.{Planned}
 use Rattle.schedule.specs.declared.Planned.the-variants.{Plan, Refused}
 use Rattle.schedule.specs.Call.{arrivalPlaces, planBy}
 use Rattle.schedule.specs.Plan.{outcomeBy, planCallBy}
-use Rattle.schedule.specs.Pass.{instanceBy}
-use Rattle.schedule.specs.Laws.Ties.{tie-rule, plannable-by, instance-by}
+use Rattle.schedule.specs.Laws.Ties.{plannable-by, instance-by}
 use Rattle.schedule.specs.Laws.Reading.{read-as, instance-held, near-gate, plannable}
 use Rattle.schedule.specs.Laws.Calls.{passes-on, call-short, call-end, laid-holds, laid-last, planned-right}
 use Rattle.schedule.specs.Laws.Delivery.{deliverable, end-found}

@@ -2,7 +2,7 @@
 use borrow.Author.Needs.{needs}
 use Rattle.etf.specs.Instance.{ordered}
 use Rattle.etf.specs.OfJob.{instanceByWeight}
-use Rattle.schedule.specs.Pass.{instanceBy}
+use Rattle.priority.specs.Orders.{instanceBy}
 use Rattle.schedule.proofs.plan_by_weight.Statement.{statement}
 use Rattle.schedule.proofs.plan_by_weight.Tie as tie
 

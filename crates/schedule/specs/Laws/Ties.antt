@@ -1,52 +1,23 @@
--- Tie rules: an instance in arrays with its tasks by a rule, from the array that holds them in that order; and a job's instance by a rule.
+-- Tie rules: an instance in arrays with its tasks by a rule, from the array that holds them in that order.
 use mathlib.Core.Path.{_≡_, refl, sym, ap, subst, _∙_}
 use mathlib.Core.List.{List}
 use Prim.Native.Nat.{ℕ, _<_}
 use native.Mathlib.Omega.{arith}
-use lib.ListN.{length, getD}
-use Rattle.base.specs.Lists.{_∈_, upto, values}
-use Rattle.base.specs.Laws.Lists.{upto-in, upto-of, length-upto, place}
+use lib.ListN.{getD}
+use Rattle.base.specs.Lists.{_∈_, values}
+use Rattle.base.specs.Laws.Lists.{place}
 use Rattle.base.specs.Laws.Values.{length-values, value-at, value-in, values-back}
 use Rattle.job.specs.Job.{Edge, Job}
 use Rattle.job.specs.Write.{edgeHeld}
 use Rattle.etf.specs.Instance.{Instance, ordered, tasks}
-use Rattle.etf.specs.Weights.{has-all, has-only, as-many}
-use Rattle.etf.specs.OfJob.{instance, TieRule}
+use Rattle.etf.specs.OfJob.{instance}
 use Rattle.priority.specs.declared.Ties.{Ties}
-use Rattle.priority.specs.declared.Ties.the-variants.{Number, Weight}
-use Rattle.priority.specs.Orders.{orderBy}
+use Rattle.priority.specs.Orders.{orderBy, instanceBy, every-task, only-tasks, as-many-tasks}
 use Rattle.priority.specs.TasksIn.{TasksIn, edgeOf}
-use Rattle.schedule.specs.InArrays.{InArrays, reordered, instanceIn, Ordering, Plannable}
-use Rattle.schedule.specs.Pass.{tiedBy, instanceBy}
+use Rattle.schedule.specs.InArrays.{InArrays, reordered, instanceIn, Plannable}
+use Rattle.schedule.specs.Pass.{tiedBy}
 use Rattle.schedule.specs.CoverPass.{HoldsPlan, HoldsIn}
 use Rattle.schedule.specs.Laws.Held.{held-tasks, held-few, well, short-tasks, timed, climb}
-
--- ---- the order by a rule has every task and nothing else
-
-every : (ties : Ties) (I : Instance) (T : ℕ) → T < tasks I → T ∈ orderBy ties I
-every Number I = upto-in (tasks I)
-every Weight I = has-all I
-
-only : (ties : Ties) (I : Instance) (T : ℕ) → T ∈ orderBy ties I → T < tasks I
-only Number I = upto-of (tasks I)
-only Weight I = has-only I
-
-many : (ties : Ties) (I : Instance) → length (orderBy ties I) ≡ tasks I
-many Number I = length-upto (tasks I)
-many Weight I = as-many I
-
--- ---- of a job
-
-pub tie-rule : (ties : Ties) → TieRule (instanceBy ties)
-unfolding instanceBy instance
-tie-rule ties = record {
-  order = λ j. orderBy ties (instance j);
-  is-by = λ j. refl;
-  has-all = λ j. every ties (instance j);
-  has-only = λ j. only ties (instance j);
-}
-
--- ---- of an instance in arrays
 
 module _ {A : InArrays} (F : Plannable A) where
   edge-at : (k : ℕ) → k < A .edges → edgeOf (instanceIn A .edges) k ≡ edgeHeld (A .from) (A .to) (A .counts) k
@@ -75,7 +46,7 @@ module _ {A : InArrays} (F : Plannable A) where
     -- the row itself, by place
     row-back : values (λ i. getD row i 0) 0 (A .tasks) ≡ row
     row-back =
-        ap (λ (m : ℕ). values (λ i. getD row i 0) 0 m) (sym (many ties (instanceIn A) ∙ held-tasks F))
+        ap (λ (m : ℕ). values (λ i. getD row i 0) 0 m) (sym (as-many-tasks ties (instanceIn A) ∙ held-tasks F))
         ∙ values-back 0 row (λ i. getD row i 0) (λ i. refl)
 
     -- anything that has the row's tasks by place
@@ -85,7 +56,7 @@ module _ {A : InArrays} (F : Plannable A) where
 
       found : (T : ℕ) → T < A .tasks → (i : ℕ) × (i < A .tasks) × (order i ≡ T)
       found T h =
-          let in-row = every ties (instanceIn A) T (omega (arith, held-tasks F)) in
+          let in-row = every-task ties (instanceIn A) T (omega (arith, held-tasks F)) in
           let z = place 0 (values order 0 (A .tasks)) T (subst (λ (l : List ℕ). T ∈ l) (sym by-place) in-row) in
           let b : z .0 < A .tasks = omega (arith, z .1, length-values order 0 (A .tasks)) in
           (z .0, b, sym (value-at order 0 (A .tasks) (z .0) b) ∙ z .2)
@@ -104,7 +75,7 @@ module _ {A : InArrays} (F : Plannable A) where
         rising = F .rising;
         near = F .near;
         ordered = record {
-          within = λ i h. omega (arith, only ties (instanceIn A) (order i) (at i h), held-tasks F);
+          within = λ i h. omega (arith, only-tasks ties (instanceIn A) (order i) (at i h), held-tasks F);
           each = found;
         };
         durations-size = F .durations-size;

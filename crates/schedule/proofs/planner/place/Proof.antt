@@ -1,7 +1,7 @@
 -- `planner::place` writes the pair down, sends along the task's edges and skips the placed tasks: it promises what these three promise.
 use mathlib.Core.Path.{_≡_, sym, ap, _∙_}
 use mathlib.Core.List.{List}
-use Prim.Native.Nat.{ℕ, _≤_, _<_}
+use Prim.Native.Nat.{ℕ, _<_}
 use native.Mathlib.Omega.{arith}
 use borrow.Author.Needs.{scaled-fits}
 use lib.Dec.{lit<}

@@ -1,5 +1,5 @@
 -- `planner::raise`: before processor p the row is raised for the processors below p, and nothing else is changed; each turn adds one place.
-use mathlib.Core.Path.{_≡_, refl, ap, _∙_}
+use mathlib.Core.Path.{_≡_, refl, _∙_}
 use mathlib.Core.Logic.{_⊎_, inl, inr, ⊎-elim}
 use mathlib.Core.List.{List}
 use Prim.Native.Nat.{ℕ, _+_, _*_, _-_, _≤_, _<_, max}
@@ -11,6 +11,13 @@ use Rattle.base.specs.Laws.Tests.{lt-or-ge}
 use Rattle.schedule.specs.Pass.{Raised}
 use Rattle.schedule.proofs.planner.raise.Statement.{statement}
 use Rattle.schedule.proofs.planner.raise.Tie as tie
+
+-- the greater of two
+later : (e f : ℕ) → e < f → f ≡ max e f
+later e f h = omega arith
+
+not-later : (e f : ℕ) → f ≤ e → e ≡ max e f
+not-later e f h = omega arith
 
 -- no processor's arrival is raised yet
 begun : (T finish count : ℕ) (row before : List ℕ) → Raised 0 T finish count row before before
@@ -31,19 +38,13 @@ module _ (p T finish count : ℕ) (row before now : List ℕ) (r : Raised p T fi
       go P (inl k) h = same (16 * T + P) (λ q. omega arith) ∙ r .in-row P k
       go P (inr k) h = let q : P ≡ p = omega arith in rw (q, e, r .right-of (16 * T + p) (omega arith))
 
-  -- the arrival is stored, or was late enough
-  rises : (after : List ℕ) → getD now (16 * T + p) 0 < finish + count * getD row p 0
-      → after ≡ set now (16 * T + p) (finish + count * getD row p 0) → 16 * T + p < length now
-      → (length after ≡ length now) × Raised (p + 1) T finish count row before after
-  rises after h e l =
-      let at = getD-set-same now (16 * T + p) (finish + count * getD row p 0) 0 l in (
-        ap length e ∙ length-set now (16 * T + p) (finish + count * getD row p 0),
-        one after (rw e (at ∙ omega arith)) (λ x k. rw e (getD-set-other now (16 * T + p) x (finish + count * getD row p 0) 0 k)),
-      )
-
-  stays : (after : List ℕ) → finish + count * getD row p 0 ≤ getD now (16 * T + p) 0 → after ≡ now
-      → (length after ≡ length now) × Raised (p + 1) T finish count row before after
-  stays after h e = rw e (refl, one now (omega arith) (λ x k. refl))
+  -- the greater of the two is stored
+  raises : (x : ℕ) → x ≡ max (getD now (16 * T + p) 0) (finish + count * getD row p 0) → 16 * T + p < length now
+      → (length (set now (16 * T + p) x) ≡ length now) × Raised (p + 1) T finish count row before (set now (16 * T + p) x)
+  raises x e l = (
+    length-set now (16 * T + p) x,
+    one (set now (16 * T + p) x) (getD-set-same now (16 * T + p) x 0 l ∙ e) (λ y k. getD-set-other now (16 * T + p) y x 0 k),
+  )
 
 abbrev Inv-loop : tie.InvT-loop
 Inv-loop arrivals₀ task processors finish count row p₀ arrivals p =
@@ -72,26 +73,20 @@ add-arrival c =
     let near = c .before .before .before .pre .1 .1 in
     record { fits = omega (arith, in-time, near (c .before .before .loop .p)) }
 
-mul-if1 : tie.Need-mul-if1 Inv-loop μ-loop
-mul-if1 c = search needs
+mul-at : tie.Need-mul-at Inv-loop μ-loop
+mul-at c = search needs
 
-add-if1 : tie.Need-add-if1 Inv-loop μ-loop
-add-if1 c = search needs
+add-at : tie.Need-add-at Inv-loop μ-loop
+add-at c = search needs
 
-mul-if1-2 : tie.Need-mul-if1-2 Inv-loop μ-loop
-mul-if1-2 c = search needs
+mul-before : tie.Need-mul-before Inv-loop μ-loop
+mul-before c = search needs
 
-slice-read-if1 : tie.Need-slice-read-if1 Inv-loop μ-loop
-slice-read-if1 c = search needs
+slice-read-before : tie.Need-slice-read-before Inv-loop μ-loop
+slice-read-before c = search needs
 
 mul-arrivals : tie.Need-mul-arrivals Inv-loop μ-loop
 mul-arrivals c = search needs
-
-add-arrivals : tie.Need-add-arrivals Inv-loop μ-loop
-add-arrivals c = search needs
-
-mul-arrivals-2 : tie.Need-mul-arrivals-2 Inv-loop μ-loop
-mul-arrivals-2 c = search needs
 
 slice-write-arrivals : tie.Need-slice-write-arrivals Inv-loop μ-loop
 slice-write-arrivals c = search needs
@@ -104,11 +99,17 @@ loop-less c = search needs
 
 loop-again : tie.Need-loop-again Inv-loop μ-loop
 loop-again c =
-    let v = c .before .before .before .before .loop .inv in
-    let r = ⊎-elim
-    (λ w. rises _ _ _ _ _ _ _ (v .2) _ (w .0 .taken) (w .1) (search needs))
-    (λ w. stays _ _ _ _ _ _ _ (v .2) _ (w .0 .left) (w .1))
+    let at-loop = c .before .before .before .before in
+    let args = at-loop .before .args in
+    let v = at-loop .loop .inv in
+    let stored : c .if1 .arrivals
+    ≡ max (getD (at-loop .loop .arrivals) (16 * args .task + at-loop .loop .p) 0)
+    (args .finish + args .count * getD (args .row .now) (at-loop .loop .p) 0) =
+    ⊎-elim
+    (λ w. w .1 ∙ later _ _ (w .0 .taken))
+    (λ w. w .1 ∙ not-later _ _ (w .0 .left))
     (c .if1 .came) in
+    let r = raises _ _ _ _ _ _ _ (v .2) _ stored (search needs) in
     (search needs, r .0 ∙ v .1, r .1)
 
 same-length : tie.Need-same-length Inv-loop μ-loop
@@ -130,13 +131,11 @@ raise-spec =
     shared-slice-read-arrival
     mul-arrival-2
     add-arrival
-    mul-if1
-    add-if1
-    mul-if1-2
-    slice-read-if1
+    mul-at
+    add-at
+    mul-before
+    slice-read-before
     mul-arrivals
-    add-arrivals
-    mul-arrivals-2
     slice-write-arrivals
     add-p
     loop-less
