@@ -30,7 +30,7 @@ put-plan-requires c κs =
     let at-plan = c .before .before .before .before .before .before in
     λ o h.
     let few = larger-few _ (tie-rule _) (at-plan .plan-by .ensures) h in
-    (few, omega (arith, few, at-plan .plan-by .kept .1 .0), omega (arith, few, at-plan .plan-by .kept .1 .1 .0))
+    (few, omega (arith, few, at-plan .plan-by .kept .1 .1 .0), omega (arith, few, at-plan .plan-by .kept .1 .1 .1 .0))
 
 same-length : tie.Need-same-length
 same-length c = search needs
