@@ -155,7 +155,7 @@ fn choose(
     best
 }
 
-// Looks over processors and tasks at the clock.
+// Looks over processors and tasks at the clock. The free processors go to `free`, which is lent, so that no round clears an array of its own.
 fn look(
     clock: u32,
     low: usize,
@@ -166,15 +166,15 @@ fn look(
     waiting: &[u16],
     latest: &[u32],
     arrivals: &[u32],
+    free: &mut [usize],
 ) -> Choice
     requires { ⌜ (n ≤ 16) × (clock < 4294967295) × (low ≤ tasks) × (tasks ≤ 256) ⌝ }
     requires { ⌜ (length (now busy) ≡ 16) × (length (now waiting) ≡ 256) × (length (now latest) ≡ 256) × (4096 ≤ length (now arrivals)) ⌝ }
-    requires { ⌜ OrderIn tasks (now order) ⌝ }
+    requires { ⌜ OrderIn tasks (now order) × (length (now free) ≡ 16) ⌝ }
     ensures { λ r. ⌜ Looked clock low tasks n (λ i. getD (now (order .entry)) i 0)
         (inbox (now (arrivals .entry)) (now (waiting .entry)) (now (latest .entry))) (now (busy .entry)) r ⌝ }
 {
-    let mut free = [0usize; 16];
-    let moment = survey(busy, n, clock, &mut free);
+    let moment = survey(busy, n, clock, free);
     let pair = choose(
         clock,
         low,
@@ -183,7 +183,7 @@ fn look(
         waiting,
         latest,
         arrivals,
-        &free,
+        free,
         moment.free,
     );
     Choice {
@@ -370,6 +370,7 @@ pub fn run<'a>(
     let mut waiting = graph::counts(to, edges);
     let mut latest = [0u32; 256];
     let mut busy = [0u32; 16];
+    let mut free = [0usize; 16];
     let mut clock: u32 = 0;
     let mut end: u32 = 0;
     let mut low: usize = 0;
@@ -386,6 +387,7 @@ pub fn run<'a>(
             &waiting,
             &latest,
             arrivals,
+            &mut free,
         );
         let pair = choice.pair;
         let next = choice.next;

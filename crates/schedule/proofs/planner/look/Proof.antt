@@ -24,42 +24,33 @@ looked {busy = busy} {clock = clock} surveyed e next found = record {
   found = found;
 }
 
-slice-aggregate-survey : tie.Need-slice-aggregate-survey
-slice-aggregate-survey c = search needs
-
 survey-requires : tie.Need-survey-requires
 survey-requires c κs = search needs
 
-slice-aggregate-choose : tie.Need-slice-aggregate-choose
-slice-aggregate-choose c = search needs
-
 choose-requires : tie.Need-choose-requires
 choose-requires c κs =
-    let at-survey = c .before .before in
+    let at-survey = c .before .before .before in
+    let start = at-survey .before .before .before .before .before .before .before .before in
     let surveyed = at-survey .survey .ensures in
-    let few : at-survey .before .before .before .before .before .before .before .args .n ≤ 16 = search needs in (
+    let few : start .args .n ≤ 16 = search needs in (
       search needs,
       (
         search needs,
         (
           (
-            omega (arith, surveyed .few, few, at-survey .survey .kept .1 .1 .1 .0),
+            omega (arith, surveyed .few, few, start .pre .1 .1 .1, at-survey .survey .kept .1 .1 .1 .0),
             λ i h. omega (arith, few, free-below _ _ _ _ _ surveyed i h),
           ),
-          at-survey .before .before .before .before .before .before .before .pre .1 .1,
+          start .pre .1 .1 .0,
         ),
       ),
     )
 
+same-length : tie.Need-same-length
+same-length c = search needs
+
 returns : tie.Need-returns
-returns c = looked (c .before .before .before .survey .ensures) (omega arith) refl (c .choose .ensures)
+returns c = looked (c .before .before .before .before .survey .ensures) (omega arith) refl (c .choose .ensures)
 
 pub look-spec : {M : Type 1} → statement M
-look-spec =
-    tie.close
-    (tie.spec
-    slice-aggregate-survey
-    survey-requires
-    slice-aggregate-choose
-    choose-requires
-    returns)
+look-spec = tie.close (tie.spec survey-requires choose-requires same-length returns)

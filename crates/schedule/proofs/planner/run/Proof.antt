@@ -1,12 +1,12 @@
 -- `planner::run` plans: after each round the arrays are in step with the rule (`Invariant`).
-use mathlib.Core.Path.{_≡_, refl, sym}
+use mathlib.Core.Path.{_≡_, refl, sym, _∙_}
 use mathlib.Core.Logic.{⊎-elim}
 use mathlib.Core.List.{List}
 use Prim.Native.Nat.{ℕ, _+_, _*_, _-_, _≤_, _<_, max}
 use native.Mathlib.Nat.{le-of-lt}
 use native.Mathlib.Omega.{arith}
 use borrow.Author.Needs.{needs, below-length}
-use lib.ListN.{getD}
+use lib.ListN.{length, getD}
 use mir.Facts.{fits-below}
 use Rattle.base.specs.Laws.Lists.{zeros-at}
 use Rattle.graph.specs.Graph.{Runs}
@@ -61,14 +61,14 @@ module _ {pair : Pair} {finish low m n : ℕ} {row to counts : List ℕ} {S : Ta
 -- ---- the invariant
 
 abbrev Inv-loop : tie.InvT-loop
-Inv-loop n tasks edges order durations from to counts starts₀ processors₀ arrivals₀ costs runs waiting₀ latest₀ busy₀ clock₀ end₀ low₀ rounds₀
-    starts processors arrivals waiting latest busy clock end low rounds =
-    Invariant (inOrder order n tasks edges durations from to counts costs) starts₀ processors₀ arrivals₀
+Inv-loop n tasks edges order durations from to counts starts₀ processors₀ arrivals₀ costs runs waiting₀ latest₀ busy₀ free₀ clock₀ end₀ low₀
+    rounds₀ starts processors arrivals waiting latest busy free clock end low rounds =
+    (length free ≡ 16) × Invariant (inOrder order n tasks edges durations from to counts costs) starts₀ processors₀ arrivals₀
     (tables starts processors busy (inbox arrivals waiting latest)) clock end low rounds
 
 abbrev μ-loop : tie.MeasureT-loop
-μ-loop n tasks edges order durations from to counts starts₀ processors₀ arrivals₀ costs runs waiting₀ latest₀ busy₀ clock₀ end₀ low₀ rounds₀
-    starts processors arrivals waiting latest busy clock end low rounds =
+μ-loop n tasks edges order durations from to counts starts₀ processors₀ arrivals₀ costs runs waiting₀ latest₀ busy₀ free₀ clock₀ end₀ low₀
+    rounds₀ starts processors arrivals waiting latest busy free clock end low rounds =
     2 * tasks - rounds
 
 -- ---- what is known at the loop
@@ -101,16 +101,16 @@ module _ (a : tie.At-loop Inv-loop μ-loop) where
 -- in the loop tasks remain
 module _ (q : tie.In-loop Inv-loop μ-loop) where
   remain : q .before .loop .low < begun (q .before) .args .tasks
-  remain = omega (arith, q .loop-test .taken, q .before .loop .inv .in-step .low-most)
+  remain = omega (arith, q .loop-test .taken, q .before .loop .inv .1 .in-step .low-most)
 
 -- ---- and where the look found a pair that is placed
 
 module _ (w : tie.Then1 Inv-loop μ-loop) where
   abbrev at-look : tie.After-look Inv-loop μ-loop
-  at-look = w .before .before .before
+  at-look = w .before .before .before .before
 
   abbrev q : tie.In-loop Inv-loop μ-loop
-  q = at-look .before .before .before .before .before
+  q = at-look .before .before .before .before .before .before
 
   abbrev a : tie.At-loop Inv-loop μ-loop
   a = q .before
@@ -122,10 +122,10 @@ module _ (w : tie.Then1 Inv-loop μ-loop) where
   in-time = omega (arith, w .if1 .taken)
 
   small : pair .task < 256
-  small = task-small (given a) (room a) (a .loop .inv) (remain q) (at-look .look .ensures) in-time
+  small = task-small (given a) (room a) (a .loop .inv .1) (remain q) (at-look .look .ensures) in-time
 
   finish-low : pair .start + getD (begun a .args .durations .now) (pair .task) 0 ≤ mostFinish
-  finish-low = finish-small (given a) (room a) (a .loop .inv) (remain q) (at-look .look .ensures) in-time
+  finish-low = finish-small (given a) (room a) (a .loop .inv .1) (remain q) (at-look .look .ensures) in-time
 
 runs-requires : tie.Need-runs-requires Inv-loop μ-loop
 runs-requires c κs = search needs
@@ -138,24 +138,27 @@ loop-holds c =
     let start = c .before .before .before .before .before .before .before .before .before .before in
     let F = start .pre .0 in
     let counted = counts-at _ _ (edges-there F .1) (omega (arith, F .few-edges)) (c .counts .ensures) in
-    holds-first (start .pre .0) (start .pre .1 .1) refl refl refl (counted .0) (counted .1) refl (zeros-at 256) refl (zeros-at 16)
+    (refl, holds-first (start .pre .0) (start .pre .1 .1) refl refl refl (counted .0) (counted .1) refl (zeros-at 256) refl (zeros-at 16))
 
 slice-aggregate-look : tie.Need-slice-aggregate-look Inv-loop μ-loop
-slice-aggregate-look c = sym (c .before .before .loop .inv .busy-size)
+slice-aggregate-look c = sym (c .before .before .loop .inv .1 .busy-size)
 
 slice-aggregate-look-2 : tie.Need-slice-aggregate-look-2 Inv-loop μ-loop
-slice-aggregate-look-2 c = sym (c .before .before .before .loop .inv .waiting-size)
+slice-aggregate-look-2 c = sym (c .before .before .before .loop .inv .1 .waiting-size)
 
 slice-aggregate-look-3 : tie.Need-slice-aggregate-look-3 Inv-loop μ-loop
-slice-aggregate-look-3 c = sym (c .before .before .before .before .loop .inv .latest-size)
+slice-aggregate-look-3 c = sym (c .before .before .before .before .loop .inv .1 .latest-size)
+
+slice-aggregate-look-4 : tie.Need-slice-aggregate-look-4 Inv-loop μ-loop
+slice-aggregate-look-4 c = sym (c .before .before .before .before .before .before .loop .inv .0)
 
 look-requires : tie.Need-look-requires Inv-loop μ-loop
 look-requires c κs =
-    let q = c .before .before .before .before in
+    let q = c .before .before .before .before .before in
     let a = q .before in
-    let Y = a .loop .inv in (
+    let Y = a .loop .inv .1 in (
       (given a .few-processors, clock-small (given a) (room a) Y, le-of-lt (remain q), given a .few-tasks),
-      ((Y .busy-size, Y .waiting-size, Y .latest-size, arrivals-room (given a) (room a) Y), ordered a),
+      ((Y .busy-size, Y .waiting-size, Y .latest-size, arrivals-room (given a) (room a) Y), (ordered a, a .loop .inv .0)),
     )
 
 slice-aggregate-finish : tie.Need-slice-aggregate-finish Inv-loop μ-loop
@@ -170,17 +173,17 @@ finish-requires c κs =
 slice-aggregate-place : tie.Need-slice-aggregate-place Inv-loop μ-loop
 slice-aggregate-place c =
     let w = c .before .before .before .before .before .before .before in
-    sym (a w .loop .inv .waiting-size)
+    sym (a w .loop .inv .1 .waiting-size)
 
 slice-aggregate-place-2 : tie.Need-slice-aggregate-place-2 Inv-loop μ-loop
 slice-aggregate-place-2 c =
     let w = c .before .before .before .before .before .before .before .before in
-    sym (a w .loop .inv .latest-size)
+    sym (a w .loop .inv .1 .latest-size)
 
 slice-aggregate-place-3 : tie.Need-slice-aggregate-place-3 Inv-loop μ-loop
 slice-aggregate-place-3 c =
     let w = c .before .before .before .before .before .before .before .before .before in
-    sym (a w .loop .inv .busy-size)
+    sym (a w .loop .inv .1 .busy-size)
 
 place-requires : tie.Need-place-requires Inv-loop μ-loop
 place-requires c κs =
@@ -189,58 +192,60 @@ place-requires c κs =
     let a = a w in
     let done = at-finish .finish .ensures in (
       asked-of (done .1 .0) (done .1 .1)
-          (to-place (given a) (room a) (a .loop .inv) (remain (q w)) (at-look w .look .ensures) (in-time w) (edge-runs a) (done .0)),
+          (to-place (given a) (room a) (a .loop .inv .1) (remain (q w)) (at-look w .look .ensures) (in-time w) (edge-runs a) (done .0)),
       ordered a,
     )
 
 add-rounds : tie.Need-add-rounds Inv-loop μ-loop
 add-rounds c =
-    let q = c .before .before .before .before .before .before .before .before in
+    let q = c .before .before .before .before .before .before .before .before .before .before in
     let a = q .before in
-    fits-below tt (rounds-small _ _ (more-rounds (given a) (room a) (a .loop .inv) (remain q)) (given a .few-tasks))
+    fits-below tt (rounds-small _ _ (more-rounds (given a) (room a) (a .loop .inv .1) (remain q)) (given a .few-tasks))
 
 loop-less : tie.Need-loop-less Inv-loop μ-loop
 loop-less c =
-    let q = c .before .before .before .before .before .before .before .before in
+    let q = c .before .before .before .before .before .before .before .before .before .before in
     let a = q .before in
-    rounds-left _ _ (more-rounds (given a) (room a) (a .loop .inv) (remain q))
+    rounds-left _ _ (more-rounds (given a) (room a) (a .loop .inv .1) (remain q))
 
 loop-again : tie.Need-loop-again Inv-loop μ-loop
 loop-again c =
-    let looked = c .before .before .before in
-    let q = looked .before .before .before .before .before in
+    let looked = c .before .before .before .before in
+    let q = looked .before .before .before .before .before .before in
     let a = q .before in
     let found = looked .look .ensures in
-    let runs = edge-runs a in
-    ⊎-elim
-    (λ w. let done = w .2 .ensures in
-    let kept = w .10 .kept .1 .1 .1 .1 .1 .1 .1 .1 .1 .1 .1 .1 .1 in
-    carried
-    (holds-placed (given a) (room a) (a .loop .inv) (remain q) found (omega (arith, w .0 .taken)) runs (done .0)
-    (placed-of (done .1 .0) (done .1 .1) (w .10 .ensures)) (later _ _ (w .21 .taken)) (kept .0) (kept .1 .0) (kept .1 .1 .0))
-    (w .22) (w .23) (w .24) (w .25) (w .26) (w .27) (w .28) (w .29) (w .30))
-    (⊎-elim
-    (λ w. let done = w .2 .ensures in
-    let kept = w .10 .kept .1 .1 .1 .1 .1 .1 .1 .1 .1 .1 .1 .1 .1 in
-    carried
-    (holds-placed (given a) (room a) (a .loop .inv) (remain q) found (omega (arith, w .0 .taken)) runs (done .0)
-    (placed-of (done .1 .0) (done .1 .1) (w .10 .ensures)) (not-later _ _ (w .21 .left)) (kept .0) (kept .1 .0) (kept .1 .1 .0))
-    (w .22) (w .23) (w .24) (w .25) (w .26) (w .27) (w .28) (w .29) (w .30))
-    (λ w. carried (holds-moved (given a) (room a) (a .loop .inv) (remain q) found (omega (arith, w .0 .left)))
-    (w .1) (w .2) (w .3) (w .4) (w .5) (w .6) (w .7) (w .8) (w .9)))
-    (c .if1 .came)
+    let runs = edge-runs a in (
+      looked .look .kept .1 .1 .1 .1 .1 .1 .1 .1 .1 .0 ∙ a .loop .inv .0,
+      ⊎-elim
+          (λ w. let done = w .2 .ensures in
+          let kept = w .10 .kept .1 .1 .1 .1 .1 .1 .1 .1 .1 .1 .1 .1 .1 in
+          carried
+          (holds-placed (given a) (room a) (a .loop .inv .1) (remain q) found (omega (arith, w .0 .taken)) runs (done .0)
+          (placed-of (done .1 .0) (done .1 .1) (w .10 .ensures)) (later _ _ (w .21 .taken)) (kept .0) (kept .1 .0) (kept .1 .1 .0))
+          (w .22) (w .23) (w .24) (w .25) (w .26) (w .27) (w .28) (w .29) (w .30))
+          (⊎-elim
+          (λ w. let done = w .2 .ensures in
+          let kept = w .10 .kept .1 .1 .1 .1 .1 .1 .1 .1 .1 .1 .1 .1 .1 in
+          carried
+          (holds-placed (given a) (room a) (a .loop .inv .1) (remain q) found (omega (arith, w .0 .taken)) runs (done .0)
+          (placed-of (done .1 .0) (done .1 .1) (w .10 .ensures)) (not-later _ _ (w .21 .left)) (kept .0) (kept .1 .0) (kept .1 .1 .0))
+          (w .22) (w .23) (w .24) (w .25) (w .26) (w .27) (w .28) (w .29) (w .30))
+          (λ w. carried (holds-moved (given a) (room a) (a .loop .inv .1) (remain q) found (omega (arith, w .0 .left)))
+          (w .1) (w .2) (w .3) (w .4) (w .5) (w .6) (w .7) (w .8) (w .9)))
+          (c .if1 .came),
+    )
 
 same-length : tie.Need-same-length Inv-loop μ-loop
-same-length c = c .before .loop .inv .untouched .starts-size
+same-length c = c .before .loop .inv .1 .untouched .starts-size
 
 same-length-2 : tie.Need-same-length-2 Inv-loop μ-loop
-same-length-2 c = c .before .loop .inv .untouched .processors-size
+same-length-2 c = c .before .loop .inv .1 .untouched .processors-size
 
 same-length-3 : tie.Need-same-length-3 Inv-loop μ-loop
-same-length-3 c = c .before .loop .inv .untouched .arrivals-size
+same-length-3 c = c .before .loop .inv .1 .untouched .arrivals-size
 
 returns : tie.Need-returns Inv-loop μ-loop
-returns c = holds-last (given (c .before)) (room (c .before)) (c .before .loop .inv) (omega (arith, c .loop-test .left))
+returns c = holds-last (given (c .before)) (room (c .before)) (c .before .loop .inv .1) (omega (arith, c .loop-test .left))
 
 pub run-spec : {M : Type 1} → statement M
 run-spec =
@@ -254,6 +259,7 @@ run-spec =
     slice-aggregate-look
     slice-aggregate-look-2
     slice-aggregate-look-3
+    slice-aggregate-look-4
     look-requires
     slice-aggregate-finish
     finish-requires
