@@ -48,7 +48,8 @@ refusal (some k) = k
 
 -- the lines that answer a question; all definitions are opened, so that they compute, also where another crate opens this one name
 unfoldable pub answer : Question → List (List ℕ)
-unfolding printed instance instanceByWeight ordered outOf weightIn weight put inserted byWeight upto any all filter greatest keep best duration into messageTime
+unfolding printed instance instanceByWeight ordered outOf weightIn weight put inserted byWeight upto any all filter greatest keep best
+    duration into messageTime
     placed placementOf messageTimeTo arrival lastFinish resultCount resultTime end dearestResult scheduleOf byTask
     atMost move settle nextMoment free finished ready pair pairs choice complete round run planned roundsIn rounds
     running busy idle someIdle latestIdleTick lowestIdle later latestInto back walk lastTask cover greatestCost dearestTo dearest

@@ -80,4 +80,5 @@ module _ (n m : ℕ) where
   pub chain-job-rounds : 1 ≤ n → n ≤ 16 → 1 ≤ m → m ≤ 256 → rounds (instance (chainJob n m)) ≡ 2 * m - 1
   unfolding instance
   chain-job-rounds a b c d =
-      chain-rounds (instance (chainJob n m)) (well-formed by-number (chainJob n m) (chain-accepted a b c d)) in-chain ∙ ap (λ (x : ℕ). 2 * x - 1) long
+      chain-rounds (instance (chainJob n m)) (well-formed by-number (chainJob n m) (chain-accepted a b c d)) in-chain
+      ∙ ap (λ (x : ℕ). 2 * x - 1) long

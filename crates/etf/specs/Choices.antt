@@ -1,4 +1,5 @@
--- What the planning rule chooses, in the words of the documents: over any priority order once, by place in it; then by number (01) and by weight (02 §6).
+-- What the planning rule chooses, in the words of the documents: over any priority order once, by place in it; then by number (01) and by
+-- weight (02 §6).
 use mathlib.Core.Path.{_≡_}
 use mathlib.Core.List.{List}
 use Prim.Native.Nat.{ℕ, _<_}
@@ -44,7 +45,8 @@ unfolding instanceByWeight
 choice-of-job j = choice-by-weight (instance j)
 
 -- these sentences settle the choice: no two pairs are first
-pub one-by-number : (I : Instance) (cm : ℕ) (ps : List Placement) (u v : Placement) → FirstPair I (λ S T. S < T) cm ps u → FirstPair I (λ S T. S < T) cm ps v → u ≡ v
+pub one-by-number : (I : Instance) (cm : ℕ) (ps : List Placement) (u v : Placement) → FirstPair I (λ S T. S < T) cm ps u
+    → FirstPair I (λ S T. S < T) cm ps v → u ≡ v
 one-by-number I cm ps = Choice.one-first I (λ S T. S < T) (λ S T a b. absurd (omega arith)) cm ps
 
 pub one-by-weight : (I : Instance) (w : ℕ → ℕ) (cm : ℕ) (ps : List Placement) (u v : Placement)

@@ -160,7 +160,8 @@ module _ {by : Job → Instance} (rule : TieRule by) (j : Job) (a : Accepted j) 
   pub planned-keeps-rules : Keeps (instance j) (byTask I (planned I))
   planned-keeps-rules =
       let kept = planned-keeps I well-formed (λ u h. omega (arith, no-finish-passes u h)) in
-      keeps-ordered (instance j) (rule .order j) (byTask I (planned I)) (subst (λ (J : Instance). Keeps J (byTask I (planned I))) (rule .is-by j) kept)
+      keeps-ordered (instance j) (rule .order j) (byTask I (planned I))
+      (subst (λ (J : Instance). Keeps J (byTask I (planned I))) (rule .is-by j) kept)
 
   -- so the checker's answer to it is a yes
   pub planned-accepted : check (instance j) (byTask I (planned I)) ≡ none

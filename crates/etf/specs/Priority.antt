@@ -25,7 +25,8 @@ position (S ∷ l) T = pick (eqb S T) 0 (suc (position l T))
 abbrev pub HeavierFirst : (ℕ → ℕ) → ℕ → ℕ → Type 0
 HeavierFirst w S T = (w T < w S) ⊎ ((w S ≡ w T) × (S < T))
 
--- pair u goes before pair v, or is the same: the smaller start; of one start the task that stands `Before` the other; of one task the lower processor
+-- pair u goes before pair v, or is the same: the smaller start; of one start the task that stands `Before` the other; of one task the
+-- lower processor
 abbrev pub GoesFirst : (ℕ → ℕ → Type 0) → Placement → Placement → Type 0
 GoesFirst Before u v =
     (u .start < v .start)

@@ -93,8 +93,8 @@ module _ (I : Instance) (W : WellFormed I) where
       → (end I result (planned I) ≡ lastFinish I (planned I)) × (dearestResult I result (planned I) ≡ 0)
   planned-without result none = without I result (planned I) (λ u h. none (u .task) (sound-plan I W .in-range u h .0))
 
--- 02 §6: "The distance from the rival is shown over an arbitrary priority order": E, C, R and D are those of the planner with that order; F is
--- of any ideal schedule of the instance, which knows of none
+-- 02 §6: "The distance from the rival is shown over an arbitrary priority order": E, C, R and D are those of the planner with that order;
+-- F is of any ideal schedule of the instance, which knows of none
 pub any-order-within : (I : Instance) (order : List ℕ) → WellFormed (ordered order I) → (result : ℕ → ℕ) (S : Ideal I)
     → WithinResults (I .processors) (end (ordered order I) result (planned (ordered order I))) (makespan I S) (cover (ordered order I))
     (dearestResult (ordered order I) result (planned (ordered order I))) (dearest (ordered order I))

@@ -155,7 +155,8 @@ fn choose(
     best
 }
 
-// Looks over processors and tasks at the clock. The free processors go to `free`, which is lent, so that no round clears an array of its own.
+// Looks over processors and tasks at the clock. The free processors go to `free`, which is lent, so that no round clears an array of its
+// own.
 fn look(
     clock: u32,
     low: usize,

@@ -344,7 +344,8 @@ fn tell(first: usize, last: usize, finish: u32, to: &[u8], waiting: &mut [u16], 
     }
 }
 
-// The first task from `low` on that is not placed; 65535 in place of a waiting count marks a placed one. By number, with no order in memory.
+// The first task from `low` on that is not placed; 65535 in place of a waiting count marks a placed one. By number, with no order in
+// memory.
 fn skip(waiting: &[u16], low: usize, tasks: usize) -> usize
     requires { ⌜ (low ≤ tasks) × (tasks ≤ length (now waiting)) ⌝ }
     ensures { λ r. ⌜ Skipped (now (waiting .entry)) (λ i. i) low tasks r ⌝ }

@@ -1,5 +1,5 @@
--- The first of the pairs: task by task along the order. Of the pairs of one task the first of smallest start has the lowest processor; those of the tasks after
--- it are taken only where they start sooner.
+-- The first of the pairs: task by task along the order. Of the pairs of one task the first of smallest start has the lowest processor;
+-- those of the tasks after it are taken only where they start sooner.
 use mathlib.Core.Path.{_≡_, refl, sym, ap, _∙_, subst}
 use mathlib.Core.Logic.{_⊎_, inl, inr}
 use mathlib.Core.Bool.{Bool, true, false, not}
@@ -37,7 +37,8 @@ module _ {A : Type 0} (beats : A → A → Bool) (O : Order beats) where
           → keep beats x (some (pick (beats v u) v u)) ≡ keep beats (pick (beats u x) u x) (some v)
       go (inl a) (inl b) =
           let c : beats v x ≡ true =
-          is-true (beats v x) (elim (either (beats v x)) [ inl h ↦ h | inr h ↦ absurd (not-both (beats u x) (O .through u v x (O .one-way v u b) h) a) ]) in
+          is-true (beats v x) (elim
+          (either (beats v x)) [ inl h ↦ h | inr h ↦ absurd (not-both (beats u x) (O .through u v x (O .one-way v u b) h) a) ]) in
           rw (is-true (beats u x) a, is-true (beats v u) b, c)
       go (inl a) (inr b) = rw (is-true (beats u x) a, is-false (beats v u) (not-both (beats v u) b), is-true (beats u x) a)
       go (inr a) (inl b) = rw (is-false (beats u x) (not-both (beats u x) a), is-true (beats v u) b)
@@ -133,7 +134,8 @@ module _ (I : Instance) (cm : ℕ) (ps : List Placement) where
 
   data RowsAre (frees l : List ℕ) : Option Placement → Type 0 where
     rows-none : ((v : Placement) → v ∈ rows frees l → ⊥) → RowsAre frees l none
-    rows-first : (u : Placement) → u ∈ rows frees l → ((v : Placement) → v ∈ rows frees l → GoesFirst (ByPlace l) u v) → RowsAre frees l (some u)
+    rows-first : (u : Placement) → u ∈ rows frees l → ((v : Placement) → v ∈ rows frees l → GoesFirst (ByPlace l) u v)
+        → RowsAre frees l (some u)
 
   at-first : (x T : ℕ) (l : List ℕ) → x ≡ T → position (x ∷ l) T ≡ 0
   unfolding position
@@ -144,7 +146,8 @@ module _ (I : Instance) (cm : ℕ) (ps : List Placement) where
   at-next x T l n = pick-no (eqb x T) 0 (suc (position l T)) (fails (eqb x T) (λ e. n (eqb→eq x T e)))
 
   -- two tasks that are not the first keep their turn
-  further : (x : ℕ) (l : List ℕ) (u v : Placement) → ¬ (x ≡ u .task) → ¬ (x ≡ v .task) → GoesFirst (ByPlace l) u v → GoesFirst (ByPlace (x ∷ l)) u v
+  further : (x : ℕ) (l : List ℕ) (u v : Placement) → ¬ (x ≡ u .task) → ¬ (x ≡ v .task) → GoesFirst (ByPlace l) u v
+      → GoesFirst (ByPlace (x ∷ l)) u v
   further x l u v a b (inl k) = inl k
   further x l u v a b (inr (e, inl k)) = inr (e, inl (omega (arith, at-next x (u .task) l a, at-next x (v .task) l b)))
   further x l u v a b (inr (e, inr k)) = inr (e, inr k)
@@ -167,7 +170,8 @@ module _ (I : Instance) (cm : ℕ) (ps : List Placement) where
 
       -- a pair of x that leads its row and starts no later than the rest leads all
       first-leads : (u : Placement) → u ∈ row frees x → ((v : Placement) → v ∈ row frees x → LowFirst u v)
-          → ((v : Placement) → v ∈ rows frees l → u .start ≤ v .start) → (v : Placement) → v ∈ rows frees (x ∷ l) → GoesFirst (ByPlace (x ∷ l)) u v
+          → ((v : Placement) → v ∈ rows frees l → u .start ≤ v .start) → (v : Placement) → v ∈ rows frees (x ∷ l)
+          → GoesFirst (ByPlace (x ∷ l)) u v
       first-leads u h lead low v k = go (split v k)
         where
           own : x ≡ u .task
@@ -187,7 +191,8 @@ module _ (I : Instance) (cm : ℕ) (ps : List Placement) where
 
       -- a pair of the rest that leads it and starts sooner than each of x leads all
       rest-leads : (u : Placement) → u ∈ rows frees l → ((v : Placement) → v ∈ rows frees l → GoesFirst (ByPlace l) u v)
-          → ((v : Placement) → v ∈ row frees x → u .start < v .start) → (v : Placement) → v ∈ rows frees (x ∷ l) → GoesFirst (ByPlace (x ∷ l)) u v
+          → ((v : Placement) → v ∈ row frees x → u .start < v .start) → (v : Placement) → v ∈ rows frees (x ∷ l)
+          → GoesFirst (ByPlace (x ∷ l)) u v
       rest-leads u h lead low v k = go (split v k)
         where
           other : ¬ (x ≡ u .task)
@@ -197,7 +202,8 @@ module _ (I : Instance) (cm : ℕ) (ps : List Placement) where
           go (inl q) = inl (low v q)
           go (inr q) = further x l u v other (q .0) (lead v (q .1))
 
-      joined : (a b : Option Placement) → RowIs (row frees x) a → RowsAre frees l b → RowsAre frees (x ∷ l) (better sooner (by-least (λ u. u .start)) a b)
+      joined : (a b : Option Placement) → RowIs (row frees x) a → RowsAre frees l b
+          → RowsAre frees (x ∷ l) (better sooner (by-least (λ u. u .start)) a b)
       unfolding keep flatMap
       joined a b (row-none y) (rows-none z) =
           rows-none (for-join (λ v. ⊥) (row frees x) (rows frees l) y z)
@@ -226,7 +232,8 @@ module _ (I : Instance) (cm : ℕ) (ps : List Placement) where
 
   -- ---- the ready tasks, by their places in the whole order
 
-  place-filter : (p : ℕ → Bool) (l : List ℕ) (S T : ℕ) → Holds (p S) → Holds (p T) → position (filter p l) S < position (filter p l) T → position l S < position l T
+  place-filter : (p : ℕ → Bool) (l : List ℕ) (S T : ℕ) → Holds (p S) → Holds (p T) → position (filter p l) S < position (filter p l) T
+      → position l S < position l T
   unfolding filter position
   place-filter p [] S T a b h = h
   place-filter p (x ∷ l) S T a b h = go (either (p x)) (either (eqb x S)) (either (eqb x T)) (λ k. place-filter p l S T a b k)
@@ -248,7 +255,13 @@ module _ (I : Instance) (cm : ℕ) (ps : List Placement) where
       go (inl y) (inr s) (inr t) r =
           let m = neqb→ne x S s in
           let n = neqb→ne x T t in
-          omega (arith, r (omega (arith, with-x y, at-next x S (filter p l) m, at-next x T (filter p l) n)), at-next x S l m, at-next x T l n)
+          omega (
+            arith,
+            r (omega
+                (arith, with-x y, at-next x S (filter p l) m, at-next x T (filter p l) n)),
+            at-next x S l m,
+            at-next x T l n,
+          )
       go (inr y) s t r = omega (arith, r (without-x y), at-next x S l (not-x S a y), at-next x T l (not-x T b y))
 
   -- the free processors
@@ -263,12 +276,14 @@ module _ (I : Instance) (cm : ℕ) (ps : List Placement) where
   unfolding choice pairs
   by-place =
       go (best sooner (pairs I cm ps))
-      (rows-are frees (order-filter (λ P Q. P < Q) (free I cm ps) (upto (I .processors)) (order-upto (I .processors))) (filter (ready I cm ps) (I .order)))
+      (rows-are frees (order-filter (λ P Q. P < Q) (free I cm ps) (upto (I .processors)) (order-upto (I .processors)))
+      (filter (ready I cm ps) (I .order)))
     where
       readies : List ℕ
       readies = filter (ready I cm ps) (I .order)
 
-      wider : (u v : Placement) → u ∈ pairs I cm ps → v ∈ pairs I cm ps → GoesFirst (ByPlace readies) u v → GoesFirst (ByPlace (I .order)) u v
+      wider : (u v : Placement) → u ∈ pairs I cm ps → v ∈ pairs I cm ps → GoesFirst (ByPlace readies) u v
+          → GoesFirst (ByPlace (I .order)) u v
       wider u v h k (inl e) = inl e
       wider u v h k (inr (e, inl l)) =
           inr (e, inl (place-filter (ready I cm ps) (I .order) (u .task) (v .task) (pair-task u h .1) (pair-task v k .1) l))

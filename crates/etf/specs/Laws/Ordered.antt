@@ -45,7 +45,8 @@ module _ (I : Instance) (order : List ℕ) where
   unfolding dearestTo into ordered greatestCost
   dearest-to-ordered zero T = refl
   dearest-to-ordered (suc k) T =
-      greatest-same (λ e. e .count * greatestCost I + dearestTo (ordered order I) k (e .from)) (λ e. e .count * greatestCost I + dearestTo I k (e .from)) (into I T)
+      greatest-same (λ e. e .count * greatestCost I + dearestTo (ordered order I) k (e .from))
+      (λ e. e .count * greatestCost I + dearestTo I k (e .from)) (into I T)
       (λ e h. ap (λ x. e .count * greatestCost I + x) (dearest-to-ordered k (e .from)))
 
   pub dearest-ordered : dearest (ordered order I) ≡ dearest I

@@ -1,4 +1,5 @@
--- The weight of a task: how many tasks it is reckoned along does not matter, as edges go up; so it satisfies the equation of the request, and nothing else does.
+-- The weight of a task: how many tasks it is reckoned along does not matter, as edges go up; so it satisfies the equation of the request,
+-- and nothing else does.
 use mathlib.Core.Path.{_≡_, refl, sym, ap, _∙_}
 use mathlib.Core.Logic.{_⊎_, inl, inr}
 use mathlib.Core.List.{List}
@@ -36,7 +37,8 @@ module _ (I : Instance) where
   weight-ordered order zero T = refl
   weight-ordered order (suc k) T =
       ap (λ x. duration I T + x)
-      (greatest-same (λ e. weightIn (ordered order I) k (e .to)) (λ e. weightIn I k (e .to)) (outOf I T) (λ e h. weight-ordered order k (e .to)))
+      (greatest-same (λ e. weightIn (ordered order I) k (e .to)) (λ e. weightIn I k (e .to)) (outOf I T)
+      (λ e h. weight-ordered order k (e .to)))
 
 module _ (I : Instance) (W : WellFormed I) where
   -- an edge leads to a higher task below m

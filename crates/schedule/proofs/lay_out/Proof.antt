@@ -1,4 +1,5 @@
--- `lay_out` refuses where a slice is too short, and else leaves what `planner::run` leaves over a cleared scratch, by the order of the rule.
+-- `lay_out` refuses where a slice is too short, and else leaves what `planner::run` leaves over a cleared scratch, by the order of the
+-- rule.
 use mathlib.Core.Path.{_≡_}
 use native.Mathlib.Omega.{arith}
 use borrow.Author.Needs.{needs}

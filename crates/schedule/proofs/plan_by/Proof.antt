@@ -1,5 +1,5 @@
--- `plan_by` passes the reader's number on, refuses by 9 where `lay_out` finds a slice too short, and else answers with the end of what it laid
--- out.
+-- `plan_by` passes the reader's number on, refuses by 9 where `lay_out` finds a slice too short, and else answers with the end of what it
+-- laid out.
 use borrow.Author.Needs.{needs}
 use Rattle.job.specs.Job.{Job}
 use Rattle.etf.specs.OfJob.{resultOf}
@@ -133,7 +133,8 @@ returns-3 c =
     let holds = laid-holds given _ _ _ (at-laid .laid .given .1) (l .lay-out .ensures) in
     let last-is = laid-last given _ _ _ (at-laid .laid .given .1) (l .lay-out .ensures) in
     call-end read (tie-rule ties) same Refused (answer ties) _ _ _ (at-laid .laid .given .1) (l .lay-out .ensures)
-    (λ e. planned-right read (tie-rule ties) same (end-found given holds last-is _ (resultOf (read .job)) (read .results-are) (c .end .ensures)))
+    (λ e. planned-right read (tie-rule ties) same
+    (end-found given holds last-is _ (resultOf (read .job)) (read .results-are) (c .end .ensures)))
 
 pub plan-by-spec : {M : Type 1} → statement M
 plan-by-spec =

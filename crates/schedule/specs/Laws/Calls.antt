@@ -267,7 +267,8 @@ module _ {file : List ℕ} {x : Reading} {m l : ℕ} (K : Read file x m l) where
         pub call-end : {laid : Laid} {e : ℕ} {r : R} → laid ≡ Last e
             → called laid starts′ processors′ scratch′ ≡ layCall H starts processors scratch
             → (e ≡ lastOf J → r ≡ answer (K .job))
-            → called r starts′ processors′ scratch′ ≡ callFor arrivalPlaces refuse (planBy by answer) (readJob file) starts processors scratch
+            → called r starts′ processors′ scratch′ ≡ callFor arrivalPlaces refuse (planBy by answer)
+            (readJob file) starts processors scratch
         unfolding callFor layCall laidOut
         call-end {laid} {e} {r} is w right =
             rw (K .says, ← many) (go (tooShort arrivalPlaces (tasks J) starts processors scratch) (rw (is, same) at w))

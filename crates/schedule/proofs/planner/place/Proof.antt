@@ -52,20 +52,23 @@ abbrev send-of : tie.After-skip → tie.After-send
 send-of c = c .before .before .before .before .before .before .before .before
 
 mul-row : tie.Need-mul-row
-mul-row c = scaled-fits _ 16 64 (c .before .before .before .before .before .before .before .before .before .pre .0 .processor-below) (lit< tt)
+mul-row c = scaled-fits _ 16 64 (c .before .before .before .before .before .before .before .before .before .pre .0 .processor-below)
+    (lit< tt)
 
 element-copy-out-row : tie.Need-element-copy-out-row
 element-copy-out-row c = c .before .before .before .before .before .before .before .before .before .pre .0 .processor-below
 
 put-requires : tie.Need-put-requires
 put-requires c κs =
-    let asked = c .before .before .before .before .before .before .before .before .before .before .before .before .before .before .pre .0 in (
+    let at-row = c .before .before .before .before .before in
+    let asked = at-row .before .before .before .before .before .before .before .before .before .pre .0 in (
       (asked .has-start, asked .has-processor, waiting-room asked),
       (omega (arith, asked .processor-below, asked .busy-size), omega (arith, asked .processor-below)),
     )
 
 slice-aggregate-send : tie.Need-slice-aggregate-send
-slice-aggregate-send c = sym (start-of (c .before .before .before .before .before .before .before .before .before) .pre .0 .sending .row-size)
+slice-aggregate-send c = sym
+    (start-of (c .before .before .before .before .before .before .before .before .before) .pre .0 .sending .row-size)
 
 send-requires : tie.Need-send-requires
 send-requires c κs =
@@ -75,8 +78,12 @@ send-requires c κs =
 skip-requires : tie.Need-skip-requires
 skip-requires c κs =
     let at-send = c .before .before .before .before .before .before .before in
-    let given = start-of (put-of at-send) .pre in
-    (given .0 .low-most, to-skip (given .0) (put-of at-send .put .ensures .1 .1 .1) (at-send .send .kept .1 .1 .1 .1 .1 .1 .1 .1 .0), given .1)
+    let given = start-of (put-of at-send) .pre in (
+      given .0 .low-most,
+      to-skip (given .0) (put-of at-send .put .ensures .1 .1 .1)
+          (at-send .send .kept .1 .1 .1 .1 .1 .1 .1 .1 .0),
+      given .1,
+    )
 
 same-length : tie.Need-same-length
 same-length c = put-of (send-of c) .put .kept .1 .1 .1 .1 .0
@@ -100,7 +107,8 @@ returns : tie.Need-returns
 returns c =
     let at-put = put-of (send-of c) in
     let noted = at-put .put .ensures in
-    together (start-of at-put .pre .0) (noted .1 .1 .1) (noted .0) (noted .1 .0) (noted .1 .1 .0) (send-of c .send .ensures) (c .skip .ensures)
+    together (start-of at-put .pre .0) (noted .1 .1 .1) (noted .0) (noted .1 .0) (noted .1 .1 .0) (send-of c .send .ensures)
+    (c .skip .ensures)
 
 pub place-spec : {M : Type 1} → statement M
 place-spec =
