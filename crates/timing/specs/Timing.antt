@@ -1,5 +1,5 @@
--- What the functions for benchmark and differential return and leave, over what the job reader and writer, the cover call and the page
--- return and leave.
+-- What the functions for benchmark and differential return and leave, over what the job reader and writer, the planners, the cover
+-- calls and the page return and leave.
 use mathlib.Core.Path.{_≡_}
 use mathlib.Core.List.{List, _∷_}
 use Prim.Native.Nat.{ℕ, _+_, _-_, _*_}
@@ -22,8 +22,6 @@ use Rattle.schedule.specs.declared.Covered.the-variants.{Cover, Refused as NotC
 use Rattle.schedule.specs.declared.Planned.{Planned}
 use Rattle.schedule.specs.declared.Planned.the-variants.{Plan, Refused as NotPlanned}
 use Rattle.schedule.specs.Call.{Call, called}
-use Rattle.schedule.specs.Cover.{coverCall}
-use Rattle.schedule.specs.Small.{smallCall}
 use Rattle.gantt.specs.declared.Drawn.{Drawn}
 use Rattle.gantt.specs.declared.Drawn.the-variants.{Length as PageLength, Refused as NotDrawn}
 use Rattle.gantt.specs.Draw.{DrawCall, drawCall}
@@ -118,11 +116,11 @@ unfoldable pub orNine : Answer → ℕ
 orNine (accepted j) = 9
 orNine (refused k) = k
 
--- 01: "Then 8, then 9 for any slice lent to the call": the output, too, may be too short
-unfoldable pub coverTimed : List ℕ → List ℕ → List ℕ → List ℕ → List ℕ → CoverReturned
-coverTimed file starts processors scratch out =
+-- a cover call, with an output; 01: "Then 8, then 9 for any slice lent to the call": the output, too, may be too short
+unfoldable pub coverTimed : (List ℕ → List ℕ → List ℕ → List ℕ → Call Covered) → List ℕ → List ℕ → List ℕ → List ℕ → List ℕ → CoverReturned
+coverTimed call file starts processors scratch out =
     pick (ltb (length out) 2) (coverReturned (orNine (readJob file)) starts processors scratch out)
-    (withOutput (coverCall file starts processors scratch) out)
+    (withOutput (call file starts processors scratch) out)
 
 -- 0 for a page that was drawn, or the refusal's number
 abbrev pub drawnNumber : Drawn → ℕ
@@ -154,6 +152,6 @@ plannedNumber (NotPlanned k) = k
 abbrev pub numbered : Call Planned → Call ℕ
 numbered c = called (plannedNumber (c .answer)) (c .starts) (c .processors) (c .scratch)
 
--- 02 §4: the planner's call with a small scratch, or the refusal's number
-unfoldable pub smallTimed : List ℕ → List ℕ → List ℕ → List ℕ → Call ℕ
-smallTimed file starts processors scratch = numbered (smallCall file starts processors scratch)
+-- a planner's call, or the refusal's number
+unfoldable pub planTimed : (List ℕ → List ℕ → List ℕ → List ℕ → Call Planned) → List ℕ → List ℕ → List ℕ → List ℕ → Call ℕ
+planTimed call file starts processors scratch = numbered (call file starts processors scratch)

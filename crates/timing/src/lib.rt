@@ -1,5 +1,5 @@
-// The job reader and writer, the square of costs, the cover call and the page as functions that the benchmark (bench/) and the differential
-// (tests/differential) call from C.
+// The job reader and writer, the square of costs, the planners on slices, the cover calls and the page as functions that the benchmark
+// (bench/) and the differential (tests/differential) call from C.
 use gantt::Drawn;
 use job::Platform;
 use job::Verdict;
@@ -7,12 +7,15 @@ use job::Written;
 use schedule::Covered;
 use schedule::Planned;
 ghost use mathlib.Core.Path.{_≡_};
-ghost use Prim.Native.Nat.{_<_};
-ghost use lib.ListN.{getD};
+ghost use Prim.Native.Nat.{_<_, _≤_};
+ghost use lib.ListN.{length, getD};
 ghost use Rattle.job.specs.Read.{readJob, readingOf};
 ghost use Rattle.schedule.specs.Call.{called};
-ghost use Rattle.timing.specs.Timing.{writtenNumber, numberAt, Copied, refusalIn, coverReturned, coverTimed};
-ghost use Rattle.timing.specs.Timing.{squareTimed, drawnNumber, drawReturned, drawTimed, plannedNumber, smallTimed};
+ghost use Rattle.schedule.specs.Cover.{coverCall, weightCoverCall};
+ghost use Rattle.schedule.specs.Plan.{weightCall};
+ghost use Rattle.schedule.specs.Small.{smallCall};
+ghost use Rattle.timing.specs.Timing.{writtenNumber, numberAt, Copied, refusalIn, numbersIn, orNine, coverReturned, coverTimed};
+ghost use Rattle.timing.specs.Timing.{squareTimed, drawnNumber, drawReturned, drawTimed, plannedNumber, planTimed};
 
 // 0 for a job that was written, or the refusal's number.
 fn written_number(written: Written) -> u32
@@ -134,6 +137,18 @@ pub extern "C" fn timing_square(
     costs[p][q]
 }
 
+// The number of a refused file, or 9 for what is lent beside an accepted one.
+fn or_nine(file: &[u8]) -> u32
+    ensures { λ r. ⌜ r ≡ orNine (readJob (now (file .entry))) ⌝ }
+{
+    let r = job::read(file);
+    let verdict = r.verdict;
+    let Verdict::Counts { tasks: _, edges: _ } = verdict else {
+        return base::wide8(job::number(verdict));
+    };
+    9
+}
+
 // The number of a refused cover call.
 fn cover_refusal(covered: Covered) -> u32
     ensures { λ r. ⌜ r ≡ refusalIn covered ⌝ }
@@ -142,6 +157,19 @@ fn cover_refusal(covered: Covered) -> u32
         Covered::Cover(_) => 0,
         Covered::Refused(number) => base::wide8(number),
     }
+}
+
+// Puts the cover and the dearest chain into the first two places of `out`: 0, or the number of a refused cover call.
+fn put_figures(covered: Covered, out: &mut [u32]) -> u32
+    requires { ⌜ 2 ≤ length (now out) ⌝ }
+    ensures { λ r. ⌜ (r ≡ refusalIn covered) × (now (out .exit) ≡ numbersIn covered (now (out .entry))) ⌝ }
+{
+    let Covered::Cover(figures) = covered else {
+        return cover_refusal(covered);
+    };
+    out[0] = figures.cover;
+    out[1] = figures.dearest;
+    0
 }
 
 // The cover call: 0 with the cover and the dearest chain in the first two places of `out`, or the refusal's number; `out` is one of the
@@ -154,24 +182,33 @@ pub extern "C" fn timing_cover(
     scratch: &mut [u32],
     out: &mut [u32],
 ) -> u32
-    ensures { λ r. ⌜ coverReturned r (now (starts .exit)) (now (processors .exit)) (now (scratch .exit)) (now (out .exit)) ≡
-        coverTimed (now (file .entry)) (now (starts .entry)) (now (processors .entry)) (now (scratch .entry)) (now (out .entry)) ⌝ }
+    ensures { λ r. ⌜ coverReturned r (now (starts .exit)) (now (processors .exit)) (now (scratch .exit)) (now (out .exit)) ≡ coverTimed
+        coverCall (now (file .entry)) (now (starts .entry)) (now (processors .entry)) (now (scratch .entry)) (now (out .entry)) ⌝ }
 {
     if out.len() < 2 {
-        let r = job::read(file);
-        let verdict = r.verdict;
-        let Verdict::Counts { tasks: _, edges: _ } = verdict else {
-            return base::wide8(job::number(verdict));
-        };
-        return 9;
+        return or_nine(file);
     }
     let covered = schedule::cover(file, starts, processors, scratch);
-    let Covered::Cover(figures) = covered else {
-        return cover_refusal(covered);
-    };
-    out[0] = figures.cover;
-    out[1] = figures.dearest;
-    0
+    put_figures(covered, out)
+}
+
+// The same of the plan with ties in start to the task with the greatest weight.
+#[no_mangle]
+pub extern "C" fn timing_cover_by_weight(
+    file: &[u8],
+    starts: &mut [u32],
+    processors: &mut [u8],
+    scratch: &mut [u32],
+    out: &mut [u32],
+) -> u32
+    ensures { λ r. ⌜ coverReturned r (now (starts .exit)) (now (processors .exit)) (now (scratch .exit)) (now (out .exit)) ≡ coverTimed
+        weightCoverCall (now (file .entry)) (now (starts .entry)) (now (processors .entry)) (now (scratch .entry)) (now (out .entry)) ⌝ }
+{
+    if out.len() < 2 {
+        return or_nine(file);
+    }
+    let covered = schedule::cover_by_weight(file, starts, processors, scratch);
+    put_figures(covered, out)
 }
 
 // 0 for a page that was drawn, or the refusal's number.
@@ -213,8 +250,23 @@ pub extern "C" fn timing_small(
     scratch: &mut [u32],
 ) -> u32
     ensures { λ r. ⌜ called r (now (starts .exit)) (now (processors .exit)) (now (scratch .exit)) ≡
-        smallTimed (now (file .entry)) (now (starts .entry)) (now (processors .entry)) (now (scratch .entry)) ⌝ }
+        planTimed smallCall (now (file .entry)) (now (starts .entry)) (now (processors .entry)) (now (scratch .entry)) ⌝ }
 {
     let planned = schedule::plan_small(file, starts, processors, scratch);
+    planned_number(planned)
+}
+
+// Plans the job of a file with ties in start to the task with the greatest weight: 0, or the refusal's number.
+#[no_mangle]
+pub extern "C" fn timing_plan_by_weight(
+    file: &[u8],
+    starts: &mut [u32],
+    processors: &mut [u8],
+    scratch: &mut [u32],
+) -> u32
+    ensures { λ r. ⌜ called r (now (starts .exit)) (now (processors .exit)) (now (scratch .exit)) ≡
+        planTimed weightCall (now (file .entry)) (now (starts .entry)) (now (processors .entry)) (now (scratch .entry)) ⌝ }
+{
+    let planned = schedule::plan_by_weight(file, starts, processors, scratch);
     planned_number(planned)
 }
