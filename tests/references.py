@@ -36,7 +36,7 @@ def before_the_file(kind, body):
     if kind in "dg":  # after the buffer's length and fill as a case of the checker
         return 3 + before_the_file({"d": "c", "g": "b"}[kind], body[3:])
     first, second = etf.number(body[0:2]), etf.number(body[2:4])
-    before = {"r": 0, "p": 15, "s": 3, "t": 1, "c": 4 + 4 * first + second, "b": 2 + first}
+    before = {"r": 0, "p": 15, "h": 15, "s": 3, "t": 1, "c": 4 + 4 * first + second, "b": 2 + first}
     if kind not in before:
         sys.exit(f"a case of kind {kind}: say in tests/references.py where its job file stands")
     return before[kind]

@@ -23,7 +23,7 @@ def yes_or(number):
     return words("refused", number) if number else "yes"
 
 
-# ---- the planner, the cover call and the planner's small entry
+# ---- the planner, the cover call, the planner's small entry, and the first two by weight
 
 def slices_line(file, head, starts, processors, scratch):
     return words(*head, "starts", *starts, "processors", *processors, "scratch", digest(scratch),
@@ -48,20 +48,39 @@ def small_line(data, slices):
     return words("small", *answer, digest(starts + processors + scratch))
 
 
+def lent(file, starts, processors, scratch, fills):
+    """Slices of so many places, as many as there are tasks if not told, and the body of a case that lends them."""
+    lengths = [file.tasks if starts is None else starts, file.tasks if processors is None else processors, scratch]
+    slices = [[fill] * length for fill, length in zip((fills[0], fills[2], fills[1]), lengths)]
+    return slices, b"".join(map(two, lengths)) + four(fills[0]) + four(fills[1]) + bytes([fills[2]]) + file.data
+
+
+def planned_lines(file, how, slices, made):
+    """The planner and the cover call, by this name, on these slices; `made` gives a good file's plan and its C."""
+    short = any(len(each) < asked for each, asked in zip(slices, (file.tasks, file.tasks, SCRATCH)))
+    refusal = file.refusal or (9 if short else 0)
+    planned = covered = ["refused", refusal]
+    if not refusal:
+        made, cover = made()
+        planned, covered = [file.tasks, made.end], [cover, file.dearest]
+        slices = [front(whole, begin) for whole, begin in zip(slices, (made.start, made.board, made.arrival))]
+    return [slices_line(file, [call + how, *said], *slices) for call, said in (("plan", planned), ("cover", covered))]
+
+
 def plan(cases, data, starts=None, processors=None, scratch=SCRATCH, fills=FILLS):
     """The planner, the cover call and the planner's small entry, with slices of so many places: as many as there are tasks if not
     told."""
     file = told(data)
-    lengths = [file.tasks if starts is None else starts, file.tasks if processors is None else processors, scratch]
-    lent = [[fill] * length for fill, length in zip((fills[0], fills[2], fills[1]), lengths)]
-    refusal = file.refusal or (9 if min(lengths[:2]) < file.tasks or scratch < SCRATCH else 0)
-    planned, covered, slices = ["refused", refusal], ["refused", refusal], lent
-    if not refusal:
-        planned, covered = [file.tasks, file.plan.end], [file.cover, file.dearest]
-        slices = [front(whole, begin) for whole, begin in zip(lent, (file.plan.start, file.plan.board, file.plan.arrival))]
-    body = b"".join(map(two, lengths)) + four(fills[0]) + four(fills[1]) + bytes([fills[2]]) + data
-    cases.add(b"p", body, slices_line(file, ["plan", *planned], *slices), slices_line(file, ["cover", *covered], *slices),
-              small_line(data, lent))
+    slices, body = lent(file, starts, processors, scratch, fills)
+    lines = planned_lines(file, "", slices, lambda: (file.plan, file.cover))
+    cases.add(b"p", body, *lines, small_line(data, slices))
+
+
+def plan_by_weight(cases, data, starts=None, processors=None, scratch=SCRATCH, fills=FILLS):
+    """The planner and the cover call by weight, with slices of so many places: as many as there are tasks if not told."""
+    file = told(data)
+    slices, body = lent(file, starts, processors, scratch, fills)
+    cases.add(b"h", body, *planned_lines(file, " by weight", slices, lambda: file.by_weight))
 
 
 # ---- the checker

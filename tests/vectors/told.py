@@ -1,5 +1,5 @@
 """What the reference planner says of a file, and of the plans that are handed in for it."""
-from functools import lru_cache
+from functools import cached_property, lru_cache
 
 import rules
 from vectors.plans import as_bytes, as_plan
@@ -29,6 +29,12 @@ class Told:
         self.tasks = len(self.job.steps)
         self.plan = rules.plan(self.job)
         self.cover, self.dearest = rules.cover(self.job, self.plan), rules.dearest(self.job)
+
+    @cached_property
+    def by_weight(self):
+        """The plan with ties by weight, and its C."""
+        plan = rules.plan(self.job, "weight")
+        return plan, rules.cover(self.job, plan)
 
     def bytes(self):
         """The planner's plan as the station controller gets it."""

@@ -8,6 +8,7 @@
 //   v  the job writer, with wires               b  the station's checker
 //   u  the job writer, with results and wires   g  the station's page
 //   p  planner, small entry and cover call      t  the listing
+//   h  planner and cover call by weight
 //   c  the checker
 //
 // The body of 'r' is a file; the others' are in the files that run them.
@@ -44,6 +45,9 @@ fn run_job(what: u8, body: &[u8]) {
 fn run_plan(what: u8, body: &[u8]) {
     if what == b'p' {
         planning::case(body);
+    }
+    if what == b'h' {
+        planning::weight_case(body);
     }
     if what == b'c' {
         checking::case(body);

@@ -1,6 +1,6 @@
 // A case of the planner and the cover call: what each answers, what it leaves in the three slices, and what the checker says of
 // the starts and processors there. Then what the planner's small entry answers, and one digest of what it leaves in all three slices.
-// Its body:
+// A case of ties by weight has planner and cover call by weight in their place. The body of both:
 //
 //   0  length of the starts (2)        6  fill of the starts (4)       14  fill of the processors
 //   2  length of the processors (2)   10  fill of the scratch (4)      15  the file
@@ -27,7 +27,6 @@ fn show_planned(planned: Planned) {
 }
 
 fn show_covered(covered: Covered) {
-    show::text(b"cover");
     match covered {
         Covered::Cover(figures) => {
             show::word(number::wide32(figures.cover));
@@ -57,6 +56,7 @@ fn plan(file: &[u8], starts: &mut [u32], processors: &mut [u8], scratch: &mut [u
 }
 
 fn cover(file: &[u8], starts: &mut [u32], processors: &mut [u8], scratch: &mut [u32]) {
+    show::text(b"cover");
     show_covered(schedule::cover(file, starts, processors, scratch));
     show_slices(starts, processors, scratch);
     checking::check(file, starts, processors);
@@ -71,7 +71,21 @@ fn small(file: &[u8], starts: &mut [u32], processors: &mut [u8], scratch: &mut [
     show::text(b"\n");
 }
 
-// The planner (p), the cover call (c) or the planner's small entry (s).
+fn plan_by_weight(file: &[u8], starts: &mut [u32], processors: &mut [u8], scratch: &mut [u32]) {
+    show::text(b"plan by weight");
+    show_planned(schedule::plan_by_weight(file, starts, processors, scratch));
+    show_slices(starts, processors, scratch);
+    checking::check(file, starts, processors);
+}
+
+fn cover_by_weight(file: &[u8], starts: &mut [u32], processors: &mut [u8], scratch: &mut [u32]) {
+    show::text(b"cover by weight");
+    show_covered(schedule::cover_by_weight(file, starts, processors, scratch));
+    show_slices(starts, processors, scratch);
+    checking::check(file, starts, processors);
+}
+
+// The planner (p), the cover call (c), the planner's small entry (s), or by weight the planner (w) and the cover call (v).
 fn call(entry: u8, file: &[u8], starts: &mut [u32], processors: &mut [u8], scratch: &mut [u32]) {
     if entry == b'c' {
         cover(file, starts, processors, scratch);
@@ -79,6 +93,14 @@ fn call(entry: u8, file: &[u8], starts: &mut [u32], processors: &mut [u8], scrat
     }
     if entry == b's' {
         small(file, starts, processors, scratch);
+        return;
+    }
+    if entry == b'w' {
+        plan_by_weight(file, starts, processors, scratch);
+        return;
+    }
+    if entry == b'v' {
+        cover_by_weight(file, starts, processors, scratch);
         return;
     }
     plan(file, starts, processors, scratch);
@@ -111,7 +133,20 @@ fn small_scratch(scratch: usize) -> usize
     scratch - 3584
 }
 
-pub fn case(body: &[u8]) {
+fn lend_all(by_weight: bool, body: &[u8], starts: usize, processors: usize, scratch: usize)
+    requires { ⌜ (15 ≤ length (now body)) × (starts ≤ 300) × (processors ≤ 300) × (scratch ≤ 4200) ⌝ }
+{
+    if by_weight {
+        lend(b'w', body, starts, processors, scratch);
+        lend(b'v', body, starts, processors, scratch);
+        return;
+    }
+    lend(b'p', body, starts, processors, scratch);
+    lend(b'c', body, starts, processors, scratch);
+    lend(b's', body, starts, processors, small_scratch(scratch));
+}
+
+fn run(by_weight: bool, body: &[u8]) {
     if body.len() < 15 {
         return;
     }
@@ -127,7 +162,13 @@ pub fn case(body: &[u8]) {
     if 4200 < scratch {
         return;
     }
-    lend(b'p', body, starts, processors, scratch);
-    lend(b'c', body, starts, processors, scratch);
-    lend(b's', body, starts, processors, small_scratch(scratch));
+    lend_all(by_weight, body, starts, processors, scratch);
+}
+
+pub fn case(body: &[u8]) {
+    run(false, body);
+}
+
+pub fn weight_case(body: &[u8]) {
+    run(true, body);
 }
