@@ -1,6 +1,7 @@
 #!/usr/bin/env python3
-"""Holds the four calls of libkelvrist.a, and the cover call, the small planner and the page of libtiming.a, to the reference,
-tests/rules.py, on random jobs and plans; planners and cover call also on the files among the cases of crate vectors.
+"""Holds the five calls of libkelvrist.a, and the cover calls, the small planner, the planner by weight and the page of libtiming.a,
+to the reference, tests/rules.py, on random jobs and plans; planners and cover calls also on the files among the cases of crate
+vectors.
 
     differential.py [seed=N] [jobs=N] [only=N] [library=FILE] [timing=FILE]
 
@@ -38,23 +39,31 @@ def as_words(numbers):
 
 
 class File:
-    """A job's bytes and what the reference says of them: a refusal's number, or 0, the job, its plan, what the cover call and the
-    small planner write to the front of each slice, and the pages of plans that were asked for."""
+    """A job's bytes and what the reference says of them: a refusal's number, or 0, the job, its plan, that by weight, what each call
+    that fills slices writes to the front of them, and the pages of plans that were asked for."""
 
     def __init__(self, data):
-        self.data, self.refusal, self.job, self.plan, self.written, self.pages = data, 0, None, [], {}, {}
+        self.data, self.refusal, self.job, self.written, self.pages = data, 0, None, {}, {}
+        self.plan, self.by_weight = [], []
         try:
             self.job = rules.read(data)
         except rules.Refused as refused:
             self.refusal = refused.number
             return
-        planned = rules.plan(self.job)
-        self.plan = list(zip(planned.board, planned.start))
-        self.written["timing_cover"] = [as_words(planned.start), bytes(planned.board), as_words(planned.arrival),
-                                        as_words([rules.cover(self.job, planned), rules.dearest(self.job)])]
+        planned, weighed = rules.plan(self.job), rules.plan(self.job, "weight")
+        self.plan, self.by_weight = (list(zip(made.board, made.start)) for made in (planned, weighed))
+        dearest = rules.dearest(self.job)
+        for call, made in (("timing_cover", planned), ("timing_cover_by_weight", weighed)):
+            self.written[call] = [as_words(made.start), bytes(made.board), as_words(made.arrival),
+                                  as_words([rules.cover(self.job, made), dearest])]
+        self.written["timing_plan_by_weight"] = self.written["timing_cover_by_weight"][:3]
         starts, processors, scratch = [1] * len(self.plan), [1] * len(self.plan), [1] * SMALL_SCRATCH
         rules.planner(data, starts, processors, scratch, "small")
         self.written["timing_small"] = [as_words(starts), bytes(processors), as_words(scratch)]
+
+    def plan_of(self, call):
+        """The plan that a planner makes."""
+        return self.by_weight if call == "kelvrist_plan_by_weight" else self.plan
 
     def answer(self, room):
         """The answer as far as the job and the plan's length go."""
@@ -86,8 +95,9 @@ def in_slices(rows):
 
 
 def places(call, m):
-    """The places that a call asks for of starts, processors and scratch, and the cover call of its output."""
-    return {"timing_cover": [m, m, SCRATCH, 2], "timing_small": [m, m, SMALL_SCRATCH]}[call]
+    """The places that a call asks for of starts, processors and scratch, and a cover call of its output."""
+    scratch = SMALL_SCRATCH if call == "timing_small" else SCRATCH
+    return [m, m, scratch, 2] if call.startswith("timing_cover") else [m, m, scratch]
 
 
 def some_rooms(dice, enough):
@@ -103,12 +113,13 @@ class Held:
 
     def __init__(self, schedule, timing):
         self.schedule, self.timing = schedule, timing
-        calls = *schedule.PLANNERS, "kelvrist_check", "timing_cover", "timing_small", "kelvrist_page", "timing_draw"
+        calls = *schedule.PLANNERS, "kelvrist_check", *timing.FILLING, "kelvrist_page", "timing_draw"
         self.answers = {call: Counter() for call in calls}
+        self.good = self.apart = 0
 
     def plan(self, call, file, room, fill):
         due = file.answer(room)
-        written = as_bytes(file.plan) if due == 0 else b""
+        written = as_bytes(file.plan_of(call)) if due == 0 else b""
         answer, after = self.schedule.plan(call, file.data, room, fill)
         if answer != due:
             raise Differs(f"{call} with {room} bytes returns {answer}, the reference says {due}")
@@ -187,14 +198,16 @@ class Held:
             self.drawn(dice, file, handed, dice.one_of([length - 1, length - 1, dice.below(length), length + dice.between(1, 9), 1120]))
 
     def slices(self, dice, file):
-        """The cover call and the small planner."""
+        """The cover calls, the small planner and the planner by weight."""
         m = len(file.plan) or dice.between(1, 256)
-        for call in ("timing_cover", "timing_small"):
+        for call in self.timing.FILLING:
             for rooms in some_rooms(dice, places(call, m)):
                 self.filled(call, file, rooms, dice.below(256))
 
     def plans(self, dice, file):
-        """Both planners in the same buffers."""
+        """The planners in the same buffers; how often the one by weight makes another plan is counted."""
+        self.good += not file.refusal
+        self.apart += file.by_weight != file.plan
         need = 5 * len(file.plan)
         for room in (need, need + dice.between(1, 9), dice.one_of([0, max(0, need - 1), dice.below(need + 1), 1280])):
             fill = dice.below(256)
@@ -206,7 +219,7 @@ class Held:
             for room in (0, dice.between(1, 40), 1280):
                 self.check(file, bytes([dice.below(256)]) * room, dice.below(256))
             return
-        for handed in handed_in(dice, file.job, file.plan):
+        for handed in (*handed_in(dice, file.job, file.plan), as_bytes(file.by_weight)):
             self.check(file, handed, dice.below(256))
 
 
@@ -268,6 +281,7 @@ def main(words):
         return 1
     for name, tallied in held.answers.items():
         print(f"{name} answered {tally(tallied)}")
+    print(f"{held.apart} of {held.good} good jobs have another plan by weight")
     print(f"differential: {what}, {sum(sum(tallied.values()) for tallied in held.answers.values())} calls, 0 differ")
     return 0
 

@@ -6,6 +6,17 @@ from vectors.records import END, damaged, link, rack, result, step, wire
 
 # ---- jobs
 
+def branches(dice, m):
+    """Chains side by side, of any lengths: what is begun first settles when the longest ends. Now and then the last task joins them."""
+    pairs, first = [], 0
+    while first < m:
+        past = min(m, first + dice.between(1, dice.one_of([2, 4, 9])))
+        pairs += [(t, t + 1) for t in range(first, past - 1)]
+        first = past
+    joined = {start for start, _ in pairs}
+    return pairs + ([(t, m - 1) for t in range(m - 1) if t not in joined] if dice.below(3) == 0 else [])
+
+
 def some_size(dice):
     turn = dice.below(100)
     if turn < 2:
@@ -17,7 +28,7 @@ def some_size(dice):
 
 def some_job(dice):
     m = some_size(dice)
-    pairs = dice.some(sorted(set(dice.one_of(SHAPES)(dice, m))), MOST_EDGES)
+    pairs = dice.some(sorted(set(dice.one_of([*SHAPES, branches, branches])(dice, m))), MOST_EDGES)
     n = dice.one_of([1, 2, 3, 16, dice.between(2, 6), dice.between(1, 16)])
     unit = dice.one_of([0, 1, 2, dice.between(1, 9), 100, dice.between(0, 100)])
     counts = numbers(dice, 1000, len(pairs))

@@ -1,5 +1,5 @@
-"""The four calls of libkelvrist.a, and the cover call, the small planner and the page of libtiming.a, by ctypes, with guard bytes
-around what is lent to them."""
+"""The five calls of libkelvrist.a, and the cover calls, the small planner, the planner by weight and the page of libtiming.a, by
+ctypes, with guard bytes around what is lent to them."""
 import ctypes
 import shutil
 import subprocess
@@ -39,7 +39,7 @@ class Schedule:
     """The planners, the checker and the page from C."""
 
     CRATE = "kelvrist"
-    PLANNERS = ("kelvrist_plan", "kelvrist_plan_small")
+    PLANNERS = ("kelvrist_plan", "kelvrist_plan_small", "kelvrist_plan_by_weight")
 
     def __init__(self, entries):
         self.entries = entries
@@ -70,15 +70,16 @@ class Schedule:
 
 
 class Timing:
-    """The cover call and the small planner, and the page of a plan in slices."""
+    """The cover calls and planners, and the page of a plan, in slices."""
 
     CRATE = "timing"
-    SLICES = {"starts": 4, "processors": 1, "scratch": 4, "output": 4}  # and the bytes of a place; the small planner has no output
+    SLICES = {"starts": 4, "processors": 1, "scratch": 4, "output": 4}  # and the bytes of a place; a planner has no output
+    FILLING = ("timing_cover", "timing_small", "timing_plan_by_weight", "timing_cover_by_weight")
 
     def __init__(self, entries):
         self.entries = entries
-        for entry in (entries.timing_cover, entries.timing_small, entries.timing_draw):
-            entry.restype = ctypes.c_uint32
+        for name in (*self.FILLING, "timing_draw"):
+            getattr(entries, name).restype = ctypes.c_uint32
 
     def filled(self, call, data, rooms, fill):
         """The answer of a call that fills slices, and the slices afterwards; they had so many places of fill bytes before."""
