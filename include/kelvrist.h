@@ -13,7 +13,7 @@
  *     for (t = 0; t < tasks; t++)
  *         begin(t, plan[5 * t], start_in(plan + 5 * t + 1));
  *
- * Any bytes may be handed in, and every call returns. What the four functions answer is proved for
+ * Any bytes may be handed in, and every call returns. What the five functions answer is proved for
  * all inputs; the statements are in crates/kelvrist/specs.
  *
  *
@@ -74,10 +74,9 @@
  * - A pointer is valid for as many bytes as the length beside it says, and is not null, also where that
  *   length is 0.
  * - The bytes of the job, of the plan and of the page do not overlap, and nobody else writes to them
- *   during a call, nor reads the plan that kelvrist_plan or kelvrist_plan_small is filling or the page
- *   that kelvrist_page is.
- * - The stack has room: kelvrist_plan takes about 35 KB, kelvrist_plan_small and kelvrist_check about
- *   15 KB, kelvrist_page about 21 KB.
+ *   during a call, nor reads the plan that a planner is filling or the page that kelvrist_page is.
+ * - The stack has room: kelvrist_plan and kelvrist_plan_by_weight take about 35 KB, kelvrist_plan_small
+ *   and kelvrist_check about 15 KB, kelvrist_page about 21 KB.
  *
  * The library takes nothing from the heap, has no global data and keeps nothing between calls: calls
  * may run at the same time in different threads. Of the C library it needs memcpy and memset alone. It
@@ -176,6 +175,17 @@ uint32_t kelvrist_plan(const uint8_t *job, size_t job_length, uint8_t *plan, siz
  * On 1 to 9, 14 and 15 nothing is altered. 10 to 13 are not returned.
  */
 uint32_t kelvrist_plan_small(const uint8_t *job, size_t job_length, uint8_t *plan, size_t plan_length);
+
+/* Plans a job as kelvrist_plan does, but with ties by the longest work left, for wide graphs, whose long
+ * branches it begins early. A task's weight is its duration plus the greatest weight among its
+ * successors, 0 if none. Ties in start go to the greatest weight, then to the lowest task, then to the
+ * lowest processor. Its plan mostly ends no later than kelvrist_plan's, but it can end later.
+ * kelvrist_check accepts it. The numbers are those that kelvrist_plan returns for the same job and length.
+ *
+ * On KELVRIST_OK the first 5m bytes of the plan are filled, and no other byte is altered.
+ * On 1 to 9, 14 and 15 nothing is altered. 10 to 13 are not returned.
+ */
+uint32_t kelvrist_plan_by_weight(const uint8_t *job, size_t job_length, uint8_t *plan, size_t plan_length);
 
 /* Judges a plan for a job: every processor is below n, every start at most 600,000,000, no two tasks
  * overlap on a processor, and no task starts before the messages sent to it are there. The plan need

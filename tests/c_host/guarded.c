@@ -1,4 +1,4 @@
-/* The four calls. What is lent stands between guard bytes in a field of fill bytes; after the call every byte
+/* The five calls. What is lent stands between guard bytes in a field of fill bytes; after the call every byte
  * that it may not alter is held to what it was. */
 #include <string.h>
 
@@ -54,7 +54,18 @@ static uint32_t plan_by(const char *call, planner *planner, const struct file *f
     return answer;
 }
 
-/* Plans by kelvrist_plan, and holds kelvrist_plan_small to its answer and its bytes. */
+/* Plans by weight, and holds kelvrist_plan_by_weight to the answer that is due; the checker accepts its plan. */
+void want_by_weight(const struct file *file, size_t tasks, struct plan *plan, uint32_t answer)
+{
+    uint32_t got = plan_by("kelvrist_plan_by_weight", kelvrist_plan_by_weight, file, tasks, plan);
+
+    if (got != answer)
+        fail("kelvrist_plan_by_weight returns %u where %u is due", got, answer);
+    if (answer == 0)
+        want_check(file, plan, 0);
+}
+
+/* Plans by kelvrist_plan, and holds kelvrist_plan_small to its answer and its bytes, kelvrist_plan_by_weight to its answer. */
 uint32_t call_plan(const struct file *file, size_t tasks, struct plan *plan)
 {
     struct plan other = {.length = plan->length};
@@ -67,6 +78,7 @@ uint32_t call_plan(const struct file *file, size_t tasks, struct plan *plan)
         if (other.bytes[i] != plan->bytes[i])
             fail("kelvrist_plan_small leaves %02x at place %zu of the plan and kelvrist_plan %02x", other.bytes[i], i,
                  plan->bytes[i]);
+    want_by_weight(file, tasks, &other, answer);
     return answer;
 }
 

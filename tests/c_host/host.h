@@ -70,11 +70,12 @@ uint32_t judge(const struct job *job, const struct plan *plan);
 /* draw.c: the page of a good plan for a job, by the documents and without the library. */
 struct page page_of(const struct job *job, const struct plan *plan);
 
-/* guarded.c: the four calls, with guard bytes around what is lent. Each plan is made by both planners. */
+/* guarded.c: the five calls, with guard bytes around what is lent. Each plan is made by all planners. */
 uint32_t call_plan(const struct file *file, size_t tasks, struct plan *plan);
 uint32_t call_check(const struct file *file, const struct plan *plan);
 uint32_t call_page(const struct file *file, const struct plan *plan, uint32_t processors, struct page *page);
 void want_plan(const struct file *file, size_t tasks, struct plan *plan, uint32_t answer);
+void want_by_weight(const struct file *file, size_t tasks, struct plan *plan, uint32_t answer);
 void want_check(const struct file *file, const struct plan *plan, uint32_t answer);
 void want_page(const struct file *file, const struct plan *plan, uint32_t processors, struct page *page, uint32_t answer);
 
@@ -85,6 +86,7 @@ void want_drawn(const struct job *job, const struct file *file, const struct pla
 void worked_cases(void);
 void costs_by_wires(void);
 void results_of_tasks(void);
+void ties_by_weight(void);
 void larger_jobs(void);
 void plans_handed_in(void);
 void order_of_refusals(void);

@@ -1,5 +1,5 @@
 /* Larger jobs: each shape with each wiring, on 1, 5 and 16 processors, with three unit costs, or wires that are as dear; two in
- * three have results. The host's own judge judges their plans; where the placements can be told beforehand, they are held to
+ * three have results. The host's own judge judges their plans, those by weight too; where the placements can be told beforehand, they are held to
  * that. */
 #include <string.h>
 
@@ -100,6 +100,20 @@ static struct plan planned(const struct job *job)
     return plan;
 }
 
+/* The plan by weight: good by the host's judge, and drawn. */
+static struct plan planned_by_weight(const struct job *job)
+{
+    struct file file = file_of(job);
+    struct plan plan = {.length = 5 * job->tasks};
+
+    want_by_weight(&file, job->tasks, &plan, 0);
+    uint32_t trouble = judge(job, &plan);
+    if (trouble != 0)
+        fail("the host's judge finds trouble %u in the plan by weight", trouble);
+    want_drawn(job, &file, &plan, 0);
+    return plan;
+}
+
 static void placed_at(const struct plan *plan, size_t task, uint32_t processor, uint32_t start)
 {
     if (processor_in(plan, task) != processor || start_in(plan, task) != start)
@@ -120,6 +134,17 @@ static void without_gap(const struct job *job, const struct plan *plan)
     }
     if (end != sum)
         fail("the plan ends at %u where %u is due", end, sum);
+}
+
+/* Without edges a task's weight is its duration: the longer of two tasks, and of equal ones the lower, starts no later. */
+static void longest_first(const struct job *job, const struct plan *plan)
+{
+    for (size_t t = 0; t < job->tasks; t++)
+        for (size_t u = t + 1; u < job->tasks; u++) {
+            int first = job->durations[t] >= job->durations[u];
+            if (first ? start_in(plan, t) > start_in(plan, u) : start_in(plan, u) > start_in(plan, t))
+                fail("by weight task %zu starts at %u and task %zu at %u", t, start_in(plan, t), u, start_in(plan, u));
+        }
 }
 
 /* A cost for each wire, there and back. The unit cost is not used with wires; here it says how dear they are. */
@@ -174,14 +199,20 @@ static void one_job(const struct shape *shape, uint32_t processors, uint32_t wir
         draw_costs(&job);
     if (unit != 2)
         draw_results(&job);
-    struct plan plan = planned(&job);
+    struct plan plan = planned(&job), by_weight = planned_by_weight(&job);
     if (unit != 2)
         same_without_results(&job, &plan);
-    if (processors == 1)
+    if (processors == 1) {
         without_gap(&job, &plan);
+        without_gap(&job, &by_weight);
+    }
     if (shape->make == chain)
-        for (uint32_t t = 0, start = 0; t < 256; start += job.durations[t++])
+        for (uint32_t t = 0, start = 0; t < 256; start += job.durations[t++]) {
             placed_at(&plan, t, 0, start);
+            placed_at(&by_weight, t, 0, start);
+        }
+    if (shape->make == no_edges)
+        longest_first(&job, &by_weight);
 }
 
 /* Equal tasks with no edges go round the processors, row by row. */

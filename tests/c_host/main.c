@@ -1,4 +1,4 @@
-/* The C host: calls both planners, checker and page as the station controller does, from C, on the documents' cases and others.
+/* The C host: calls planners, checker and page as the station controller does, from C, on the documents' cases and others.
  * Each group runs with two fill bytes, so that a byte written where none is due cannot look like what was there. */
 #include <stdarg.h>
 #include <stdio.h>
@@ -13,6 +13,7 @@ static const struct group {
     {"worked cases", worked_cases},
     {"costs by wires", costs_by_wires},
     {"results of tasks", results_of_tasks},
+    {"ties by weight", ties_by_weight},
     {"larger jobs", larger_jobs},
     {"plans handed in", plans_handed_in},
     {"order of refusals", order_of_refusals},
