@@ -2,7 +2,8 @@
 # make page JOB=FILE plans a job file, and prints the page of its plan for the cabinet door
 # make test          everything, from nothing: tests/gate
 # make check         proves what has changed, and runs the programs
-# make bench         times reader, writer, square, planners, checker, cover call and page against plain Rust, and measures the stack
+# make bench         times reader, writer, square, planners, checker, cover calls and page against plain Rust, and measures the stack
+# make ends          tells how the ends of plans by weight stand to those by number; make bench does too
 # make host          runs the C host over the static library, and the README's example
 # make differential  holds library and program to the reference planner on random jobs and plans: SEED=.. JOBS=..
 # make examples      holds the examples and the tools for them to the reference planner
@@ -10,7 +11,7 @@
 # make definitions   holds the definitions of crate etf, and the page, to the reference planner on random jobs: SEED=.. JOBS=..
 # make clean         removes what was made
 
-.PHONY: run page test check bench host differential examples vectors definitions clean
+.PHONY: run page test check bench ends bench-built host differential examples vectors definitions clean
 .PHONY: job-named has-rt has-python3 has-cc has-objcopy has-rustc
 
 libraries = target/staticlib/libkelvrist.a target/staticlib/libtiming.a
@@ -33,11 +34,16 @@ test:
 check: has-rt
 	@rt check
 
+bench: bench-built
+	@target/bench crates/vectors
+
+ends: bench-built
+	@target/bench crates/vectors ends
+
 # No time hangs on where the linker happens to put a function: plain Rust's begin at a line of the cache, ours are timed at each start in one.
-bench: has-rt has-cc has-objcopy has-rustc has-python3 $(libraries:target/staticlib/%=target/placed/%)
+bench-built: has-rt has-cc has-objcopy has-rustc has-python3 $(libraries:target/staticlib/%=target/placed/%)
 	@rustc --edition 2021 -O -C target-cpu=x86-64 -C codegen-units=1 -C llvm-args=-align-all-functions=6 \
 		-L native=target/placed -l static=timing -l static=kelvrist -o target/bench bench/main.rs
-	@target/bench crates/vectors
 
 target/placed/%.a: target/staticlib/%.a bench/place
 	@mkdir -p target/placed

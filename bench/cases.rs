@@ -1,5 +1,5 @@
 //! The cases of `vectors`: the files among them; and what C is not told, by the lines that they must give: how the plain Rust writer
-//! judges and writes jobs that no file holds, and the end of the plain Rust planner's plan.
+//! judges and writes jobs that no file holds, and the end of the plain Rust planner's plan, by number and by weight.
 use crate::families::TASKS;
 use crate::job::{self, Platform, Reading};
 use crate::planner;
@@ -62,19 +62,34 @@ fn written(body: &[u8], wires: &[u8], results: &[u8]) -> String {
 
 /// The line of the listing that tells the end, or the refusal.
 fn end(file: &[u8]) -> String {
-    match planner::plan(file, &mut [0; 5 * TASKS]) {
+    match planner::plan::<false>(file, &mut [0; 5 * TASKS]) {
         Ok(end) => format!("end {end}"),
         Err(number) => format!("refused {number}"),
     }
 }
 
-/// Holds the plain Rust writer and the end of the plain Rust planner to the lines that the cases must give.
+/// Holds the end by weight, or the refusal, to the planner's line of a case of ties by weight: it stands before the starts there. 9 is
+/// for the case's slices.
+fn hold_weight(file: &[u8], line: &str) {
+    let said = match planner::plan::<true>(file, &mut [0; 5 * TASKS]) {
+        Ok(end) => format!(" {end}"),
+        Err(number) => format!(" refused {number}"),
+    };
+    let told = line.split(" starts").next().unwrap_or("");
+    assert!(
+        told.ends_with(" refused 9") || told.ends_with(&said),
+        "{said}, not {line}"
+    );
+}
+
+/// Holds the plain Rust writer and the ends of the plain Rust planner to the lines that the cases must give.
 pub fn hold(cases: &[u8], lines: &str) {
     let mut lines = lines.lines();
     let mut held = 0;
     for (i, (what, body)) in all(cases).enumerate() {
         let due: Vec<_> = match what {
             b'p' => lines.by_ref().take(3).collect(),
+            b'h' => lines.by_ref().take(2).collect(),
             b't' => {
                 let text = lines.by_ref();
                 text.take_while(|line| !line.starts_with("listing of"))
@@ -86,6 +101,11 @@ pub fn hold(cases: &[u8], lines: &str) {
             }
             _ => lines.by_ref().take(1).collect(),
         };
+        if what == b'h' {
+            hold_weight(&body[15..], due[0]);
+            held += 1;
+            continue;
+        }
         let said = match what {
             b'w' => written(body, &[], &[]),
             b'v' => written(&body[256..], &body[..256], &[]),
@@ -100,5 +120,5 @@ pub fn hold(cases: &[u8], lines: &str) {
         held += 1;
     }
     assert_eq!(lines.next(), None, "more lines than cases");
-    println!("{held} cases of writer and listing: the Rust writer's lines and the Rust planner's ends are right");
+    println!("{held} cases of writer, listing and weights: the Rust writer's lines and the Rust planner's ends are right");
 }

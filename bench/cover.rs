@@ -104,7 +104,7 @@ impl Planned<'_> {
 }
 
 /// Plans the job of a file into the slices: 0 with the cover and the dearest chain in the first places of `out`, or the refusal's number.
-pub fn cover(
+pub fn cover<const BY_WEIGHT: bool>(
     file: &[u8],
     starts: &mut [u32],
     processors: &mut [u8],
@@ -128,7 +128,7 @@ pub fn cover(
         return 9;
     };
     *arrivals = [[0; 16]; 256];
-    let mut planner = Planner::new(&reading, tasks, edges, arrivals);
+    let mut planner = Planner::<BY_WEIGHT>::new(&reading, tasks, edges, arrivals);
     planner.run(|pair| {
         starts[pair.task] = pair.start;
         processors[pair.task] = pair.processor;

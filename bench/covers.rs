@@ -1,4 +1,5 @@
-//! The cover call: held against the plain Rust one, then timed against it and against our planner; and the stack that ours takes.
+//! The cover calls, by number and by weight: held against the plain Rust ones, then timed against them, the one by number also against
+//! our planner; and the stack that ours take.
 use std::hint::black_box;
 
 use crate::families::{Family, TASKS};
@@ -12,6 +13,32 @@ const ARRIVALS: usize = 16 * TASKS;
 const ROOMS: [usize; 4] = [TASKS, TASKS, ARRIVALS, 2];
 
 type Cover = fn(&[u8], &mut [u32], &mut [u8], &mut [u32], &mut [u32]) -> u32;
+
+/// A cover call: what its lines begin with, ours as it is exported and called, and the plain Rust one.
+struct Calls {
+    name: &'static str,
+    exported: &'static str,
+    address: fn() -> usize,
+    ours: Cover,
+    rust: Cover,
+}
+
+const CALLS: [Calls; 2] = [
+    Calls {
+        name: "cover",
+        exported: "timing_cover",
+        address: proved::cover_address,
+        ours: proved::cover,
+        rust: cover::cover::<false>,
+    },
+    Calls {
+        name: "cover by weight",
+        exported: "timing_cover_by_weight",
+        address: proved::cover_by_weight_address,
+        ours: proved::cover_by_weight,
+        rust: cover::cover::<true>,
+    },
+];
 
 /// What is lent to a cover call beside the file.
 #[derive(PartialEq)]
@@ -44,7 +71,7 @@ impl Lent {
 }
 
 /// The same number and slices from both, for slices that are long enough and, each in turn, too short.
-fn hold_covers(file: &[u8], tasks: usize, tally: &mut Tally) {
+fn hold_covers(calls: &Calls, file: &[u8], tasks: usize, tally: &mut Tally) {
     for rooms in [
         [tasks, tasks, ARRIVALS, 2],
         [tasks + 3, tasks + 2, ARRIVALS + 5, 2],
@@ -56,10 +83,10 @@ fn hold_covers(file: &[u8], tasks: usize, tally: &mut Tally) {
         [0, 0, 0, 0],
     ] {
         let (mut ours, mut rust) = (Lent::new(rooms), Lent::new(rooms));
-        let answer = ours.to(proved::cover, file);
+        let answer = ours.to(calls.ours, file);
         assert_eq!(
             answer,
-            rust.to(cover::cover, file),
+            rust.to(calls.rust, file),
             "{rooms:?} places, job {file:?}"
         );
         assert!(
@@ -72,23 +99,25 @@ fn hold_covers(file: &[u8], tasks: usize, tally: &mut Tally) {
 
 /// Holds the two against each other on these files; beside each stands its number of tasks, or a greater one.
 pub fn hold(jobs: &[(Vec<u8>, usize)]) {
-    let mut tally = Tally::new();
-    for (file, tasks) in jobs {
-        hold_covers(file, *tasks, &mut tally);
+    for calls in &CALLS {
+        let mut tally = Tally::new();
+        for (file, tasks) in jobs {
+            hold_covers(calls, file, *tasks, &mut tally);
+        }
+        tally.print(&format!("{}: both calls", calls.name));
     }
-    tally.print("both covers");
 }
 
-fn time_covers(family: &Family) {
+fn time_covers(calls: &Calls, family: &Family) {
     let (mut ours, mut rust) = (Lent::new(ROOMS), Lent::new(ROOMS));
     timing::compare(
-        &format!("cover {}", family.name),
+        &format!("{} {}", calls.name, family.name),
         &family.files,
         |file| {
-            black_box(black_box(&mut ours).to(proved::cover, file));
+            black_box(black_box(&mut ours).to(calls.ours, file));
         },
         |file| {
-            black_box(black_box(&mut rust).to(cover::cover, file));
+            black_box(black_box(&mut rust).to(calls.rust, file));
         },
     );
 }
@@ -108,7 +137,11 @@ fn time_beside(family: &Family) {
 }
 
 pub fn time(families: &[Family]) {
-    families.iter().for_each(time_covers);
+    for calls in &CALLS {
+        families
+            .iter()
+            .for_each(|family| time_covers(calls, family));
+    }
 }
 
 /// Times our cover call, which plans and measures, against our planner's call.
@@ -116,30 +149,33 @@ pub fn time_beside_plan(families: &[Family]) {
     families.iter().for_each(time_beside);
 }
 
-/// The most stack that our call takes on the jobs of the families.
+/// The most stack that each of our calls takes on the jobs of the families.
 pub fn measure_stack(families: &[Family]) {
-    let files = families.iter().flat_map(|family| &family.files);
-    let most = files.map(|file| {
-        let (mut lent, mut known) = (Lent::new(ROOMS), Lent::new(ROOMS));
-        let arguments = [
-            file.as_ptr() as usize,
-            file.len(),
-            lent.starts.as_mut_ptr() as usize,
-            lent.starts.len(),
-            lent.processors.as_mut_ptr() as usize,
-            lent.processors.len(),
-            lent.scratch.as_mut_ptr() as usize,
-            lent.scratch.len(),
-            lent.out.as_mut_ptr() as usize,
-            lent.out.len(),
-        ];
-        let depth = stack::depth(proved::cover_address(), &arguments);
-        known.to(proved::cover, file);
-        assert!(lent == known, "the call went wrong: job {file:?}");
-        depth
-    });
-    println!(
-        "timing_cover takes {} bytes of stack",
-        most.max().unwrap_or(0)
-    );
+    for calls in &CALLS {
+        let files = families.iter().flat_map(|family| &family.files);
+        let most = files.map(|file| {
+            let (mut lent, mut known) = (Lent::new(ROOMS), Lent::new(ROOMS));
+            let arguments = [
+                file.as_ptr() as usize,
+                file.len(),
+                lent.starts.as_mut_ptr() as usize,
+                lent.starts.len(),
+                lent.processors.as_mut_ptr() as usize,
+                lent.processors.len(),
+                lent.scratch.as_mut_ptr() as usize,
+                lent.scratch.len(),
+                lent.out.as_mut_ptr() as usize,
+                lent.out.len(),
+            ];
+            let depth = stack::depth((calls.address)(), &arguments);
+            known.to(calls.ours, file);
+            assert!(lent == known, "the call went wrong: job {file:?}");
+            depth
+        });
+        println!(
+            "{} takes {} bytes of stack",
+            calls.exported,
+            most.max().unwrap_or(0)
+        );
+    }
 }

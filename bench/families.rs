@@ -1,4 +1,4 @@
-//! The jobs that planner, small planner, checker, cover call and page are timed on, in families: 256 tasks on 16 processors.
+//! The jobs that planners, checker, cover calls and page are timed on, in families: 256 tasks on 16 processors.
 use std::collections::BTreeSet;
 
 use crate::dice::Dice;

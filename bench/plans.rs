@@ -8,10 +8,12 @@ use crate::{checker, planner, proved, stack, timing};
 
 const RANDOM_JOBS: usize = 400;
 
+pub type Plan = fn(&[u8], &mut [u8]) -> u32;
+
 /// The plain Rust planner as C calls ours: 0, or the refusal's number; the end is not told.
 #[inline(never)]
-fn rust_plan(file: &[u8], plan: &mut [u8]) -> u32 {
-    planner::plan(file, plan).err().unwrap_or(0)
+pub fn rust_plan<const BY_WEIGHT: bool>(file: &[u8], plan: &mut [u8]) -> u32 {
+    planner::plan::<BY_WEIGHT>(file, plan).err().unwrap_or(0)
 }
 
 fn some_job(dice: &mut Dice) -> Job {
@@ -67,17 +69,18 @@ pub fn rooms(tasks: usize) -> [usize; 4] {
 }
 
 /// The same number and bytes from both planners, in plans that are long enough and too short; gives the plan.
-fn hold_planners(file: &[u8], tasks: usize, tally: &mut Tally) -> Vec<u8> {
+pub fn hold_planners(
+    [one, other]: [Plan; 2],
+    file: &[u8],
+    tasks: usize,
+    tally: &mut Tally,
+) -> Vec<u8> {
     let mut plan = Vec::new();
     for room in rooms(tasks) {
         let mut ours = vec![0xEE; room];
         plan = ours.clone();
-        let answer = proved::plan(file, &mut ours);
-        assert_eq!(
-            answer,
-            rust_plan(file, &mut plan),
-            "{room} bytes, job {file:?}"
-        );
+        let answer = one(file, &mut ours);
+        assert_eq!(answer, other(file, &mut plan), "{room} bytes, job {file:?}");
         assert!(ours == plan, "the plans differ: {room} bytes, job {file:?}");
         tally.count(answer);
     }
@@ -109,7 +112,7 @@ fn some_jobs(dice: &mut Dice) -> Vec<(Vec<u8>, usize)> {
     jobs
 }
 
-/// What planners, small planners, checkers, covers and pages are held on: random jobs, these files, and each job of the families.
+/// What planners, checkers, covers and pages are held on: random jobs, these files, and each job of the families.
 /// Beside each stands its number of tasks, or a greater one.
 pub fn jobs(files: &[&[u8]], families: &[Family]) -> Vec<(Vec<u8>, usize)> {
     let mut jobs = some_jobs(&mut Dice::new(2));
@@ -124,7 +127,8 @@ pub fn hold(jobs: &[(Vec<u8>, usize)]) {
     let dice = &mut Dice::new(3);
     let (mut planned, mut checked) = (Tally::new(), Tally::new());
     for (file, tasks) in jobs {
-        let mut plan = hold_planners(file, *tasks, &mut planned);
+        let planners = [proved::plan, rust_plan::<false>];
+        let mut plan = hold_planners(planners, file, *tasks, &mut planned);
         hold_checkers(file, &plan, &mut checked);
         alter(dice, &mut plan);
         hold_checkers(file, &plan, &mut checked);
@@ -155,7 +159,7 @@ pub fn compare(
 
 fn time_planners(family: &Family) {
     let what = format!("plan {}", family.name);
-    compare(&what, family, proved::plan, rust_plan);
+    compare(&what, family, proved::plan, rust_plan::<false>);
 }
 
 fn time_checkers(family: &Family) {

@@ -32,13 +32,19 @@ placed!(SQUARE(u8, u8, u8, *const u8, usize, usize):
 placed!(PLAN(*const u8, usize, *mut u8, usize): kelvrist_plan_at_0, kelvrist_plan_at_16, kelvrist_plan_at_32, kelvrist_plan_at_48);
 placed!(PLAN_SMALL(*const u8, usize, *mut u8, usize):
     kelvrist_plan_small_at_0, kelvrist_plan_small_at_16, kelvrist_plan_small_at_32, kelvrist_plan_small_at_48);
+placed!(PLAN_BY_WEIGHT(*const u8, usize, *mut u8, usize):
+    kelvrist_plan_by_weight_at_0, kelvrist_plan_by_weight_at_16, kelvrist_plan_by_weight_at_32, kelvrist_plan_by_weight_at_48);
 placed!(CHECK(*const u8, usize, *const u8, usize): kelvrist_check_at_0, kelvrist_check_at_16, kelvrist_check_at_32, kelvrist_check_at_48);
 placed!(PAGE(*const u8, usize, *const u8, usize, *mut u8, usize):
     kelvrist_page_at_0, kelvrist_page_at_16, kelvrist_page_at_32, kelvrist_page_at_48);
 placed!(COVER(*const u8, usize, *mut u32, usize, *mut u8, usize, *mut u32, usize, *mut u32, usize):
     timing_cover_at_0, timing_cover_at_16, timing_cover_at_32, timing_cover_at_48);
+placed!(COVER_BY_WEIGHT(*const u8, usize, *mut u32, usize, *mut u8, usize, *mut u32, usize, *mut u32, usize):
+    timing_cover_by_weight_at_0, timing_cover_by_weight_at_16, timing_cover_by_weight_at_32, timing_cover_by_weight_at_48);
 placed!(SMALL(*const u8, usize, *mut u32, usize, *mut u8, usize, *mut u32, usize):
     timing_small_at_0, timing_small_at_16, timing_small_at_32, timing_small_at_48);
+placed!(BY_WEIGHT(*const u8, usize, *mut u32, usize, *mut u8, usize, *mut u32, usize):
+    timing_plan_by_weight_at_0, timing_plan_by_weight_at_16, timing_plan_by_weight_at_32, timing_plan_by_weight_at_48);
 placed!(DRAW(*const u8, usize, *const u32, usize, *const u8, usize, *mut u8, usize):
     timing_draw_at_0, timing_draw_at_16, timing_draw_at_32, timing_draw_at_48);
 
@@ -75,6 +81,10 @@ pub fn plan_small(job: &[u8], plan: &mut [u8]) -> u32 {
     unsafe { there(&PLAN_SMALL)(job.as_ptr(), job.len(), plan.as_mut_ptr(), plan.len()) }
 }
 
+pub fn plan_by_weight(job: &[u8], plan: &mut [u8]) -> u32 {
+    unsafe { there(&PLAN_BY_WEIGHT)(job.as_ptr(), job.len(), plan.as_mut_ptr(), plan.len()) }
+}
+
 pub fn check(job: &[u8], plan: &[u8]) -> u32 {
     unsafe { there(&CHECK)(job.as_ptr(), job.len(), plan.as_ptr(), plan.len()) }
 }
@@ -99,6 +109,51 @@ pub fn cover(
             scratch.len(),
             out.as_mut_ptr(),
             out.len(),
+        )
+    }
+}
+
+/// The same by weight.
+pub fn cover_by_weight(
+    file: &[u8],
+    starts: &mut [u32],
+    processors: &mut [u8],
+    scratch: &mut [u32],
+    out: &mut [u32],
+) -> u32 {
+    unsafe {
+        there(&COVER_BY_WEIGHT)(
+            file.as_ptr(),
+            file.len(),
+            starts.as_mut_ptr(),
+            starts.len(),
+            processors.as_mut_ptr(),
+            processors.len(),
+            scratch.as_mut_ptr(),
+            scratch.len(),
+            out.as_mut_ptr(),
+            out.len(),
+        )
+    }
+}
+
+/// Plans a job into the slices by weight.
+pub fn by_weight(
+    file: &[u8],
+    starts: &mut [u32],
+    processors: &mut [u8],
+    scratch: &mut [u32],
+) -> u32 {
+    unsafe {
+        there(&BY_WEIGHT)(
+            file.as_ptr(),
+            file.len(),
+            starts.as_mut_ptr(),
+            starts.len(),
+            processors.as_mut_ptr(),
+            processors.len(),
+            scratch.as_mut_ptr(),
+            scratch.len(),
         )
     }
 }
@@ -135,10 +190,14 @@ pub fn draw(file: &[u8], starts: &[u32], processors: &[u8], out: &mut [u8]) -> u
     }
 }
 
-/// The addresses of the four calls on a job and a plan, by name; the last has a page after them.
-pub fn addresses() -> [(&'static str, usize); 4] {
+/// The addresses of the five calls on a job and a plan, by name; the last has a page after them.
+pub fn addresses() -> [(&'static str, usize); 5] {
     [
         ("kelvrist_plan", there(&PLAN) as *const () as usize),
+        (
+            "kelvrist_plan_by_weight",
+            there(&PLAN_BY_WEIGHT) as *const () as usize,
+        ),
         (
             "kelvrist_plan_small",
             there(&PLAN_SMALL) as *const () as usize,
@@ -146,6 +205,14 @@ pub fn addresses() -> [(&'static str, usize); 4] {
         ("kelvrist_check", there(&CHECK) as *const () as usize),
         ("kelvrist_page", there(&PAGE) as *const () as usize),
     ]
+}
+
+pub fn cover_by_weight_address() -> usize {
+    there(&COVER_BY_WEIGHT) as *const () as usize
+}
+
+pub fn by_weight_address() -> usize {
+    there(&BY_WEIGHT) as *const () as usize
 }
 
 pub fn cover_address() -> usize {

@@ -31,7 +31,7 @@ fn due(file: &[u8], starts: &mut [u32], processors: &mut [u8], scratch: &mut [u3
     if starts.len() < tasks || processors.len() < tasks || scratch.len() < SCRATCH {
         return 9;
     }
-    Planner::new(&reading, tasks, edges, &mut [[0; 16]; 256]).run(|pair| {
+    Planner::<false>::new(&reading, tasks, edges, &mut [[0; 16]; 256]).run(|pair| {
         starts[pair.task] = pair.start;
         processors[pair.task] = pair.processor;
     });
