@@ -1,4 +1,4 @@
-// The planner and the checker for C, on job bytes and plan bytes (document 01), and the page of a plan (document 02 §3).
+// The planners and the checker for C, on job bytes and plan bytes (document 01; document 02 §4 and §6), and the page of a plan (§3).
 mod encoding;
 
 use gantt::Drawn;

@@ -1,4 +1,4 @@
-// The planner, the cover and the checker (document 01).
+// The planner, the cover and the checker (document 01; document 02 §4 and §6).
 mod chains;
 mod checker;
 mod delivery;
