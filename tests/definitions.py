@@ -6,9 +6,10 @@ proof.
 
 It copies the definitions, and what they cite in the crates below, to target/definitions: no law, no theorem and no function, so
 that a changed definition can be tried before the laws are mended. Beside them it writes a crate `held` with a theorem a job, each
-by computing the definitions: the plan, its end, C, the dearest chain, each result's time and the dearest, the rounds, the arrivals;
-the same of the plan by weight, the weights and the tasks by weight; the square of costs, the checker's answers to some plans, and
-the pages of those that are good. `rt dev` then says which do not hold. What is expected is by the reference alone, tests/rules.py.
+by computing the definitions: the plan, its end, C, the dearest chain, each result's time and the dearest, the rounds and the
+arrivals, all of these by number and by weight; the weights and the order by them; the square of costs, the checker's answers to some
+plans, and the pages of those that are good. `rt dev` then says which do not hold. What is expected is by the reference alone,
+tests/rules.py.
 
 Status 1: the definitions and the reference differ. Status 2: they cannot be compared, as a definition does not check.
 """
@@ -27,7 +28,7 @@ from kelvrist.inout import Trouble  # noqa: E402
 
 FOLDER = TOP / "target" / "definitions"
 CRATE, PAGE = "etf", "gantt"  # the second is above the first
-MODULES = {CRATE: "Instance Schedule Rule Cover Dearest Checker Topology Weight OfJob", PAGE: "Page"}  # what they cite is found
+MODULES = {CRATE: "Instance Schedule Rule Cover Dearest Checker Topology OfJob Weight", PAGE: "Page"}  # what they cite is found
 CITED = re.compile(r"^(?:pub )?use Rattle·(\w+?)(?:·specs)?\.specs\.([\w.]+)\.\{", re.M)
 COMPUTES, SHORT = re.compile(r"^ *unfoldable pub (\S+) :", re.M), re.compile(r"^ *abbrev pub (\S+) :", re.M)
 RESULTS = "resultOf resultTime dearestResult end".split()  # brought in where they only abbreviate, too
@@ -180,30 +181,27 @@ def some_plans(dice, job, plan):
         yield boards, starts
 
 
-def plan_theorem(i, name, instance, job, plan, names):
-    """That the plan of a job's instance, and all that is read off it, is this plan."""
+def seen(job, plan):
+    """The rows of a plan: its steps, its figures and its arrivals."""
     m, n, durations = len(job.steps), job.boards, job.durations
     times = dict(rules.result_times(job, plan.board))
     lines = [(t, plan.board[t], plan.start[t], plan.start[t] + durations[t], times.get(t, 0)) for t in range(m)]
     lines.append((plan.end, rules.cover(job, plan), rules.dearest(job), rules.dearest_result(job, plan), plan.rounds))
-    lines += [plan.arrival[16 * t : 16 * t + n] for t in range(m)]
-    text = [f"{name}-{i} : seen ({instance} job-{i}) (resultOf job-{i}) ≡ {rows(lines)}"]
-    return text + [f"unfolding seen bind flatMap {names}", f"{name}-{i} = refl", ""]
+    return lines + [plan.arrival[16 * t : 16 * t + n] for t in range(m)]
 
 
 def theorem(i, dice, names):
     job = some_job(dice)
-    plan = rules.plan(job)
+    plan, weights = rules.plan(job), rules.weights(job)
     m, n, durations = len(job.steps), job.boards, job.durations
     wires, links, results = made("wire", job.wires), made("link", job.links), made("result", job.results)
     text = [f"abbrev job-{i} : Job", f"job-{i} = job {n} {job.wiring} {job.unit} {wires} {numbers(durations)} {links} {results}", ""]
-    text += plan_theorem(i, "plan", "instance", job, plan, names)
-    text += plan_theorem(i, "by-weight", "instanceByWeight", job, rules.plan(job, "weight"), names)
-    weights = rules.weights(job)
-    text += [f"weights-{i} : map (weight (instance job-{i})) (upto {m}) ≡ {numbers(weights)}"]
-    text += [f"unfolding {names}", f"weights-{i} = refl", ""]
-    text += [f"order-{i} : byWeight (instance job-{i}) ≡ {numbers(sorted(range(m), key=lambda t: (-weights[t], t)))}"]
-    text += [f"unfolding {names}", f"order-{i} = refl", ""]
+    for name, of, made_plan in (("plan", "instance", plan), ("by-weight", "instanceByWeight", rules.plan(job, "weight"))):
+        text += [f"{name}-{i} : seen ({of} job-{i}) (resultOf job-{i}) ≡ {rows(seen(job, made_plan))}"]
+        text += [f"unfolding seen bind flatMap {names}", f"{name}-{i} = refl", ""]
+    order = sorted(range(m), key=lambda t: (-weights[t], t))
+    text += [f"weights-{i} : map (weight (instance job-{i})) (upto {m}) ∷ byWeight (instance job-{i}) ∷ [] ≡ {rows([weights, order])}"]
+    text += [f"unfolding bind flatMap {names}", f"weights-{i} = refl", ""]
     text += [f"square-{i} : costsOf job-{i} ≡ {rows(rules.square(job))}", f"unfolding {names}", f"square-{i} = refl", ""]
     found = []
     for k, (boards, starts) in enumerate(some_plans(dice, job, plan)):

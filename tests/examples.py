@@ -4,7 +4,8 @@
     examples.py
 
 Of each example: its text makes its job file, the job file's text makes it again, the reference prints its plan, and the chart
-is well-formed and has a box for each step and a mark for each result. docs/plan.svg is what tools/gantt draws, and the pages in
+is well-formed and has a box for each step and a mark for each result. Where a text tells both plans, by number and by weight, they
+are the reference's. docs/plan.svg is what tools/gantt draws, and the pages in
 README.md, docs/page.1 and crates/page/stdout are the reference's of its plans. A table of bad texts and bad files has the message
 that each gets. On random files tools/job refuses as the reference does, tools/gantt has the reference's end, and its walk the
 reference's cover for its sum. The first thing that differs is printed, with status 1.
@@ -26,9 +27,10 @@ from kelvrist.walk import walk  # noqa: E402
 from vectors.dice import Dice  # noqa: E402
 
 EXAMPLES = TOP / "examples"
-NAMES = ["a", "cube16", "forkjoin", "greatest", "postponed", "results", "ring", "wires"]
+NAMES = ["a", "branches", "cube16", "forkjoin", "greatest", "postponed", "results", "ring", "wires"]
 PICTURE = "forkjoin"  # the example that docs/plan.svg shows
 RUN = "cube16"  # the example that the gate runs program `page` on
+BOTH = "branches"  # the example whose text tells its plans by number and by weight
 FILES = 300
 # Where pages of examples stand: the file, how an example and its page are found there, how far it is indented, and the examples.
 PAGES = [
@@ -198,6 +200,18 @@ def hold_example(name):
         hold("docs/plan.svg", (TOP / "docs" / "plan.svg").read_bytes(), chart)
 
 
+def hold_both_plans():
+    """The rows of a text that tell weights, and board and start of each step with the end, by number and by weight."""
+    job = rules.read((EXAMPLES / f"{BOTH}.job").read_bytes())
+    due = {"weight": list(map(str, rules.weights(job)))}
+    for ties in ("number", "weight"):
+        plan = rules.plan(job, ties)
+        due[f"by {ties}"] = [f"{board}@{start}" for board, start in zip(plan.board, plan.start)] + [str(plan.end)]
+    text = (EXAMPLES / f"{BOTH}.txt").read_text()
+    rows = {name: row.split() for name, row in re.findall(r"^# +(weight|by number|by weight) +(\d.*)$", text, re.M)}
+    hold(f"the rows of {BOTH}.txt", rows, due)
+
+
 def due_marks(job):
     """What the chart says of each result."""
     plan, counts = rules.plan(job), dict(job.results)
@@ -313,6 +327,7 @@ def main():
         hold("the examples", sorted(file.stem for file in EXAMPLES.glob("*.txt")), NAMES)
         for name in NAMES:
             hold_example(name)
+        hold_both_plans()
         hold_pages()
         hold_texts()
         hold_files()

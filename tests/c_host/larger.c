@@ -224,9 +224,11 @@ static void equal_tasks(uint32_t processors)
     no_edges(&job);
     for (size_t t = 0; t < 256; t++)
         job.durations[t] = 1000000;
-    struct plan plan = planned(&job);
-    for (uint32_t t = 0; t < 256; t++)
+    struct plan plan = planned(&job), by_weight = planned_by_weight(&job);
+    for (uint32_t t = 0; t < 256; t++) {
         placed_at(&plan, t, t % processors, t / processors * 1000000);
+        placed_at(&by_weight, t, t % processors, t / processors * 1000000);
+    }
 }
 
 void larger_jobs(void)
