@@ -234,6 +234,21 @@ fn even() -> Vec<u8> {
     .file()
 }
 
+/// The job for which planner and cover call by weight take longest beside those by number that is known.
+///
+/// As in `even` the planner looks at one pair to place a task. Durations rise, so that each task weighs more than all below it, and
+/// the sort moves it past all of them. By number the tasks start as they stand.
+fn rising() -> Vec<u8> {
+    Job {
+        platform: [16, 0, 0],
+        wires: Vec::new(),
+        durations: (1000..1000 + TASKS).collect(),
+        edges: Vec::new(),
+        results: Vec::new(),
+    }
+    .file()
+}
+
 fn dense(dice: &mut Dice) -> Shape {
     some_edges(dice, TASKS, 1024)
 }
@@ -244,7 +259,7 @@ fn from_five(_: &mut Dice) -> Shape {
     all.take(1024).collect()
 }
 
-pub fn families() -> [Family; 14] {
+pub fn families() -> [Family; 15] {
     [
         family("chain", chain),
         family("fork-join", fork_join),
@@ -259,6 +274,10 @@ pub fn families() -> [Family; 14] {
         Family {
             name: "even",
             files: vec![even()],
+        },
+        Family {
+            name: "rising",
+            files: vec![rising()],
         },
         Family {
             name: "worst",
