@@ -40,7 +40,7 @@ bench: bench-built
 ends: bench-built
 	@target/bench crates/vectors ends
 
-# No time hangs on where the linker happens to put a function: plain Rust's begin at a line of the cache, ours are timed at each start in one.
+# No time hangs on where the linker puts a function: plain Rust's begin at a line of the cache, ours are timed at each start in one.
 bench-built: has-rt has-cc has-objcopy has-rustc has-python3 $(libraries:target/staticlib/%=target/placed/%)
 	@rustc --edition 2021 -O -C target-cpu=x86-64 -C codegen-units=1 -C llvm-args=-align-all-functions=6 \
 		-L native=target/placed -l static=timing -l static=kelvrist -o target/bench bench/main.rs

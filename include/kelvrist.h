@@ -180,7 +180,7 @@ uint32_t kelvrist_plan_small(const uint8_t *job, size_t job_length, uint8_t *pla
  * branches it begins early. A task's weight is its duration plus the greatest weight among its
  * successors, 0 if none. Ties in start go to the greatest weight, then to the lowest task, then to the
  * lowest processor. Its plan mostly ends no later than kelvrist_plan's, but it can end later.
- * kelvrist_check accepts it. The numbers are those that kelvrist_plan returns for the same job and length.
+ * kelvrist_check accepts it. For a job and a length it returns the number that kelvrist_plan returns.
  *
  * On KELVRIST_OK the first 5m bytes of the plan are filled, and no other byte is altered.
  * On 1 to 9, 14 and 15 nothing is altered. 10 to 13 are not returned.

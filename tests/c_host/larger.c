@@ -1,6 +1,6 @@
 /* Larger jobs: each shape with each wiring, on 1, 5 and 16 processors, with three unit costs, or wires that are as dear; two in
- * three have results. The host's own judge judges their plans, those by weight too; where the placements can be told beforehand, they are held to
- * that. */
+ * three have results. The host's own judge judges their plans, those by weight too; where the placements can be told beforehand,
+ * they are held to that. */
 #include <string.h>
 
 #include "host.h"
