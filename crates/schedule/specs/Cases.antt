@@ -1,4 +1,5 @@
--- The calls, computed by their definitions on inputs of document 01: its cases A and H, and the small input of the refusal table for 9.
+-- The calls, computed by their definitions on inputs of document 01: its cases A and H, and the small input of the refusal table for 9; and
+-- on a job of document 02 §6.
 use mathlib.Core.Path.{_≡_, refl}
 use mathlib.Core.List.{List, [], _∷_, _++_, map}
 use Prim.Native.Nat.{ℕ}
@@ -15,9 +16,9 @@ use Rattle.schedule.specs.declared.Planned.the-variants.{Plan, Refused}
 use Rattle.schedule.specs.declared.Covered.the-variants.{Cover, Refused as NotCovered}
 use Rattle.schedule.specs.declared.Checked.the-variants.{Yes, Refused as NotChecked}
 use Rattle.schedule.specs.Call.{called, startOf, processorOf, scratchAt, laidOut, tooShort, callFor}
-use Rattle.schedule.specs.Plan.{endBy, outcomeBy, planCallBy, planCall}
+use Rattle.schedule.specs.Plan.{endBy, outcomeBy, planCallBy, planCall, weightCall}
 use Rattle.schedule.specs.Small.{laidSmall, smallCall}
-use Rattle.schedule.specs.Cover.{figures, coverCallBy, coverCall}
+use Rattle.schedule.specs.Cover.{figures, coverCallBy, coverCall, weightCoverCall}
 use Rattle.schedule.specs.Check.{checkOf, checkedAs, checkFor, checkCall}
 
 -- a rack of two boards, flat, c = 2, and steps of so many ticks
@@ -39,6 +40,16 @@ job-a =
 -- 01: the file of case H
 abbrev file-h : List ℕ
 file-h = 1 ∷ 2 ∷ 0 ∷ 5 ∷ (step 3 ++ (step 2 ++ (step 2 ++ (3 ∷ 0 ∷ 1 ∷ 1 ∷ 0 ∷ 3 ∷ 0 ∷ 2 ∷ 1 ∷ 0 ∷ 4 ∷ []))))
+
+-- 02 §6: a long branch, on two boards, flat, c = 1 (`by-weight` of etf's cases)
+abbrev file-long : List ℕ
+file-long =
+    1 ∷ 2 ∷ 0 ∷ 1 ∷ (step 1 ++ (step 1 ++ (step 1 ++ (step 1 ++ (step 4
+    ++ (3 ∷ 0 ∷ 3 ∷ 1 ∷ 0 ∷ 3 ∷ 1 ∷ 3 ∷ 1 ∷ 0 ∷ 3 ∷ 2 ∷ 4 ∷ 1 ∷ 0 ∷ 4 ∷ []))))))
+
+-- five places of each
+abbrev fives : List ℕ
+fives = 7 ∷ 7 ∷ 7 ∷ 7 ∷ 7 ∷ []
 
 -- two steps of five ticks
 abbrev pub apart : List ℕ
@@ -71,10 +82,17 @@ pub cases-hold :
     × (coverCall apart (7 ∷ 7 ∷ []) (7 ∷ []) (replicate 4096 8) ≡ called (NotCovered 9) (7 ∷ 7 ∷ []) (7 ∷ []) (replicate 4096 8))
     × (coverCall apart (7 ∷ 7 ∷ []) (7 ∷ 7 ∷ []) (replicate 4095 8) ≡ called (NotCovered 9) (7 ∷ 7 ∷ []) (7 ∷ 7 ∷ []) (replicate 4095 8))
     × (coverCall (1 ∷ 2 ∷ 0 ∷ []) (7 ∷ []) [] [] ≡ called (NotCovered 1) (7 ∷ []) [] [])
+    -- by weight the long branch begins at 0, and the end is 5 in place of 6; 9 as the larger entry has it
+    × (planCall file-long fives fives (replicate 4096 7) .answer ≡ Plan (record { tasks = 5; end = 6 }))
+    × (weightCall file-long fives fives (replicate 4096 7) .answer ≡ Plan (record { tasks = 5; end = 5 }))
+    × (weightCall file-long fives fives (replicate 4096 7) .starts ≡ 0 ∷ 1 ∷ 0 ∷ 2 ∷ 1 ∷ [])
+    × (weightCall file-long fives fives (replicate 4096 7) .processors ≡ 1 ∷ 1 ∷ 0 ∷ 1 ∷ 0 ∷ [])
+    × (weightCoverCall file-long fives fives (replicate 4096 7) .answer ≡ Cover (record { cover = 0; dearest = 1 }))
+    × (weightCall apart (7 ∷ 7 ∷ []) (7 ∷ 7 ∷ []) (replicate 4095 8) ≡ called (Refused 9) (7 ∷ 7 ∷ []) (7 ∷ 7 ∷ []) (replicate 4095 8))
     -- the checker: 9 for each slice; places past m are not read
     × (checkCall apart (0 ∷ []) (0 ∷ 1 ∷ []) ≡ NotChecked 9)
     × (checkCall apart (0 ∷ 0 ∷ []) (0 ∷ []) ≡ NotChecked 9)
     × (checkCall apart (0 ∷ 5 ∷ 0 ∷ []) (0 ∷ 0 ∷ 99 ∷ []) ≡ Yes)
 unfolding planCallBy smallCall laidSmall outcomeBy endBy coverCallBy figures callFor laidOut tooShort filled scratchAt checkCall checkFor
     checkedAs checkOf startOf processorOf computed answer
-cases-hold = (refl, refl, refl, refl, refl, refl, refl, refl, refl, refl, refl, refl, refl, refl, refl, refl, refl, refl, refl)
+cases-hold = (refl, refl, refl, refl, refl, refl, refl, refl, refl, refl, refl, refl, refl, refl, refl, refl, refl, refl, refl, refl, refl, refl, refl, refl, refl)
