@@ -1,8 +1,8 @@
-//! How the ends of plans by weight stand to those by number: over the families, and over random wide jobs. The ends are the plain Rust
-//! planner's, which the benchmark holds to ours by the plans' bytes.
+//! How the ends of plans by weight stand to those by number: over the families, and over random wide jobs. Our calls from C tell no end:
+//! it is the plain Rust planner's, whose plan has the bytes of ours.
 use crate::dice::Dice;
 use crate::families::{Family, Job, TASKS};
-use crate::planner;
+use crate::{planner, proved};
 
 const WIDE_JOBS: usize = 300;
 
@@ -37,12 +37,18 @@ fn wide_job(dice: &mut Dice) -> Vec<u8> {
     .file()
 }
 
+/// The end of the plan that one of our planners makes.
+fn end<const BY_WEIGHT: bool>(file: &[u8], ours: fn(&[u8], &mut [u8]) -> u32) -> f64 {
+    let (mut plan, mut rust) = ([0; 5 * TASKS], [0; 5 * TASKS]);
+    let end = planner::plan::<BY_WEIGHT>(file, &mut rust).expect("the job is good");
+    assert_eq!(ours(file, &mut plan), 0, "the job is good");
+    assert!(plan == rust, "the plans differ");
+    f64::from(end)
+}
+
 /// The end by weight divided by the end by number.
 fn ratio(file: &[u8]) -> f64 {
-    let plan = &mut [0; 5 * TASKS];
-    let by_number = planner::plan::<false>(file, plan).expect("the job is good");
-    let by_weight = planner::plan::<true>(file, plan).expect("the job is good");
-    f64::from(by_weight) / f64::from(by_number)
+    end::<true>(file, proved::plan_by_weight) / end::<false>(file, proved::plan)
 }
 
 fn row(name: &str, files: &[Vec<u8>]) {
