@@ -17,6 +17,7 @@ mod planner;
 mod plans;
 mod proved;
 mod reader;
+mod slices;
 mod small;
 mod smalls;
 mod squares;

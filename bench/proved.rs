@@ -48,6 +48,22 @@ placed!(BY_WEIGHT(*const u8, usize, *mut u32, usize, *mut u8, usize, *mut u32, u
 placed!(DRAW(*const u8, usize, *const u32, usize, *const u8, usize, *mut u8, usize):
     timing_draw_at_0, timing_draw_at_16, timing_draw_at_32, timing_draw_at_48);
 
+/// A call on a file and three lent slices, and one that has an output too.
+type OnSlices =
+    unsafe extern "C" fn(*const u8, usize, *mut u32, usize, *mut u8, usize, *mut u32, usize) -> u32;
+type WithOutput = unsafe extern "C" fn(
+    *const u8,
+    usize,
+    *mut u32,
+    usize,
+    *mut u8,
+    usize,
+    *mut u32,
+    usize,
+    *mut u32,
+    usize,
+) -> u32;
+
 /// The one of four that is to be called.
 fn there<F: Copy>(all: &[F; STARTS]) -> F {
     all[START.load(Relaxed)]
@@ -89,8 +105,31 @@ pub fn check(job: &[u8], plan: &[u8]) -> u32 {
     unsafe { there(&CHECK)(job.as_ptr(), job.len(), plan.as_ptr(), plan.len()) }
 }
 
-/// Plans a job into the slices, and puts the cover and the dearest chain into `out`.
-pub fn cover(
+/// Calls one of four on slices.
+fn on_slices(
+    all: &[OnSlices; STARTS],
+    file: &[u8],
+    starts: &mut [u32],
+    processors: &mut [u8],
+    scratch: &mut [u32],
+) -> u32 {
+    unsafe {
+        there(all)(
+            file.as_ptr(),
+            file.len(),
+            starts.as_mut_ptr(),
+            starts.len(),
+            processors.as_mut_ptr(),
+            processors.len(),
+            scratch.as_mut_ptr(),
+            scratch.len(),
+        )
+    }
+}
+
+/// Calls one of four on slices, with an output.
+fn with_output(
+    all: &[WithOutput; STARTS],
     file: &[u8],
     starts: &mut [u32],
     processors: &mut [u8],
@@ -98,7 +137,7 @@ pub fn cover(
     out: &mut [u32],
 ) -> u32 {
     unsafe {
-        there(&COVER)(
+        there(all)(
             file.as_ptr(),
             file.len(),
             starts.as_mut_ptr(),
@@ -111,6 +150,17 @@ pub fn cover(
             out.len(),
         )
     }
+}
+
+/// Plans a job into the slices, and puts the cover and the dearest chain into `out`.
+pub fn cover(
+    file: &[u8],
+    starts: &mut [u32],
+    processors: &mut [u8],
+    scratch: &mut [u32],
+    out: &mut [u32],
+) -> u32 {
+    with_output(&COVER, file, starts, processors, scratch, out)
 }
 
 /// The same by weight.
@@ -121,20 +171,7 @@ pub fn cover_by_weight(
     scratch: &mut [u32],
     out: &mut [u32],
 ) -> u32 {
-    unsafe {
-        there(&COVER_BY_WEIGHT)(
-            file.as_ptr(),
-            file.len(),
-            starts.as_mut_ptr(),
-            starts.len(),
-            processors.as_mut_ptr(),
-            processors.len(),
-            scratch.as_mut_ptr(),
-            scratch.len(),
-            out.as_mut_ptr(),
-            out.len(),
-        )
-    }
+    with_output(&COVER_BY_WEIGHT, file, starts, processors, scratch, out)
 }
 
 /// Plans a job into the slices by weight.
@@ -144,34 +181,12 @@ pub fn by_weight(
     processors: &mut [u8],
     scratch: &mut [u32],
 ) -> u32 {
-    unsafe {
-        there(&BY_WEIGHT)(
-            file.as_ptr(),
-            file.len(),
-            starts.as_mut_ptr(),
-            starts.len(),
-            processors.as_mut_ptr(),
-            processors.len(),
-            scratch.as_mut_ptr(),
-            scratch.len(),
-        )
-    }
+    on_slices(&BY_WEIGHT, file, starts, processors, scratch)
 }
 
 /// Plans a job into the slices with 512 places of scratch.
 pub fn small(file: &[u8], starts: &mut [u32], processors: &mut [u8], scratch: &mut [u32]) -> u32 {
-    unsafe {
-        there(&SMALL)(
-            file.as_ptr(),
-            file.len(),
-            starts.as_mut_ptr(),
-            starts.len(),
-            processors.as_mut_ptr(),
-            processors.len(),
-            scratch.as_mut_ptr(),
-            scratch.len(),
-        )
-    }
+    on_slices(&SMALL, file, starts, processors, scratch)
 }
 
 /// Draws a plan in `out`.

@@ -4,13 +4,10 @@ use crate::families::{Family, TASKS};
 use crate::job::{self, Reading, Verdict};
 use crate::planner::Planner;
 use crate::tally::Tally;
-use crate::{plans, proved, stack};
+use crate::{plans, proved, slices};
 
 /// Places of the scratch.
 const SCRATCH: usize = 16 * TASKS;
-
-/// Places of the slices for any job: starts, processors and scratch.
-const ROOMS: [usize; 3] = [TASKS, TASKS, SCRATCH];
 
 /// The plain Rust planner on slices: 0, or the refusal's number.
 fn rust_plan(file: &[u8], starts: &mut [u32], processors: &mut [u8], scratch: &mut [u32]) -> u32 {
@@ -34,69 +31,14 @@ fn rust_plan(file: &[u8], starts: &mut [u32], processors: &mut [u8], scratch: &m
     0
 }
 
-/// What is lent beside the file.
-#[derive(PartialEq)]
-struct Lent {
-    starts: Vec<u32>,
-    processors: Vec<u8>,
-    scratch: Vec<u32>,
-}
-
-impl Lent {
-    fn new([starts, processors, scratch]: [usize; 3]) -> Self {
-        Lent {
-            starts: vec![0xEEEE_EEEE; starts],
-            processors: vec![0xEE; processors],
-            scratch: vec![0xEEEE_EEEE; scratch],
-        }
-    }
-
-    fn to(
-        &mut self,
-        plan: fn(&[u8], &mut [u32], &mut [u8], &mut [u32]) -> u32,
-        file: &[u8],
-    ) -> u32 {
-        plan(
-            file,
-            &mut self.starts,
-            &mut self.processors,
-            &mut self.scratch,
-        )
-    }
-}
-
-/// The same number and slices from both, for slices that are long enough and, each in turn, too short.
-fn hold_slices(file: &[u8], tasks: usize, tally: &mut Tally) {
-    for rooms in [
-        [tasks, tasks, SCRATCH],
-        [tasks + 3, tasks + 2, SCRATCH + 6],
-        [tasks - 1, tasks, SCRATCH],
-        [tasks, tasks - 1, SCRATCH],
-        [tasks, tasks, SCRATCH - 1],
-        [0, 0, 0],
-    ] {
-        let (mut ours, mut rust) = (Lent::new(rooms), Lent::new(rooms));
-        let answer = ours.to(proved::by_weight, file);
-        assert_eq!(
-            answer,
-            rust.to(rust_plan, file),
-            "{rooms:?} places, job {file:?}"
-        );
-        assert!(
-            ours == rust,
-            "the slices differ: {rooms:?} places, job {file:?}"
-        );
-        tally.count(answer);
-    }
-}
-
 /// Holds them against each other on these files; beside each stands its number of tasks, or a greater one.
 pub fn hold(jobs: &[(Vec<u8>, usize)]) {
     let (mut planned, mut filled) = (Tally::new(), Tally::new());
     for (file, tasks) in jobs {
         let planners = [proved::plan_by_weight, plans::rust_plan::<true>];
         plans::hold_planners(planners, file, *tasks, &mut planned);
-        hold_slices(file, *tasks, &mut filled);
+        let in_slices: [slices::Plan; 2] = [proved::by_weight, rust_plan];
+        slices::hold(in_slices, SCRATCH, file, *tasks, &mut filled);
     }
     planned.print("both planners by weight");
     filled.print("both planners by weight in slices");
@@ -128,26 +70,7 @@ pub fn time_beside_plan(families: &[Family]) {
 
 /// The most stack that our call on slices takes on the jobs of the families.
 pub fn measure_stack(families: &[Family]) {
-    let files = families.iter().flat_map(|family| &family.files);
-    let most = files.map(|file| {
-        let (mut lent, mut known) = (Lent::new(ROOMS), Lent::new(ROOMS));
-        let arguments = [
-            file.as_ptr() as usize,
-            file.len(),
-            lent.starts.as_mut_ptr() as usize,
-            lent.starts.len(),
-            lent.processors.as_mut_ptr() as usize,
-            lent.processors.len(),
-            lent.scratch.as_mut_ptr() as usize,
-            lent.scratch.len(),
-        ];
-        let depth = stack::depth(proved::by_weight_address(), &arguments);
-        known.to(proved::by_weight, file);
-        assert!(lent == known, "the call went wrong: job {file:?}");
-        depth
-    });
-    println!(
-        "timing_plan_by_weight takes {} bytes of stack",
-        most.max().unwrap_or(0)
-    );
+    let address = proved::by_weight_address();
+    let name = "timing_plan_by_weight";
+    slices::measure_stack(name, address, proved::by_weight, SCRATCH, families);
 }
