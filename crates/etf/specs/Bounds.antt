@@ -31,6 +31,10 @@ mostEnd = mostFinish + mostMessageTime
 abbrev pub mostChain : ℕ
 mostChain = (mostTasks - 1) * mostMessageTime
 
+-- 02 §6: the weight of a task: no chain has a task twice
+abbrev pub mostWeight : ℕ
+mostWeight = mostTasks * mostDuration
+
 -- as document 01 has them
 pub as-written : (mostCost ≡ 800) × (mostFinish ≡ 460000000)
 as-written = (refl, refl)

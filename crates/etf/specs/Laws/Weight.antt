@@ -1,7 +1,6 @@
 -- The weight of a task: how many tasks it is reckoned along does not matter, as edges go up; so it satisfies the equation of the request,
 -- and nothing else does.
 use mathlib.Core.Path.{_≡_, refl, sym, ap, _∙_}
-use mathlib.Core.Logic.{_⊎_, inl, inr}
 use mathlib.Core.List.{List}
 use Prim.Native.Nat.{ℕ, zero, suc, _+_, _*_, _-_, _≤_, _<_}
 use native.Mathlib.Omega.{arith}
@@ -10,17 +9,9 @@ use lib.Dec.{eqb, eqb→eq}
 use Rattle.job.specs.Job.{Edge}
 use Rattle.base.specs.Lists.{_∈_, greatest}
 use Rattle.etf.specs.Instance.{Instance, ordered, WellFormed, tasks, duration, outOf}
-use Rattle.base.specs.Laws.Tests.{le-or-lt, eq→eqb}
-use Rattle.base.specs.Laws.Lists.{filter-in, filter-of, greatest-at, greatest-same}
+use Rattle.base.specs.Laws.Tests.{eq→eqb}
+use Rattle.base.specs.Laws.Lists.{filter-in, filter-of, greatest-most, greatest-same}
 use Rattle.etf.specs.Weight.{weightIn, weight}
-
--- a bound on each value is a bound on the greatest
-pub greatest-most : {A : Type 0} (f : A → ℕ) (l : List A) (b : ℕ) → ((a : A) → a ∈ l → f a ≤ b) → greatest f l ≤ b
-greatest-most f l b h = go (le-or-lt (greatest f l) b)
-  where
-    go : (greatest f l ≤ b) ⊎ (b < greatest f l) → greatest f l ≤ b
-    go (inl k) = k
-    go (inr k) = let z = greatest-at f l b k in absurd (omega (arith, h (z .0) (z .1), z .2))
 
 module _ (I : Instance) where
   pub out-of : (T : ℕ) (e : Edge) → e ∈ outOf I T → (e ∈ I .edges) × (e .from ≡ T)
