@@ -9,15 +9,9 @@ use lib.ListN.{length, getD, set, length-set}
 use lib.Seq.{getD-set-same, getD-set-other}
 use Rattle.base.specs.Laws.Tests.{lt-or-ge}
 use Rattle.schedule.specs.Pass.{Raised}
+use Rattle.schedule.specs.Laws.Rows.Lifted.{later, not-later}
 use Rattle.schedule.proofs.planner.raise.Statement.{statement}
 use Rattle.schedule.proofs.planner.raise.Tie as tie
-
--- the greater of two
-later : (e f : ℕ) → e < f → f ≡ max e f
-later e f h = omega arith
-
-not-later : (e f : ℕ) → f ≤ e → e ≡ max e f
-not-later e f h = omega arith
 
 -- no processor's arrival is raised yet
 begun : (T finish count : ℕ) (row before : List ℕ) → Raised 0 T finish count row before before

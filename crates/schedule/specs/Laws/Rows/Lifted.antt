@@ -1,10 +1,17 @@
--- An entry of an array that is raised to a number where it is below: what it is afterwards, and that no other entry changes.
+-- A number, and an entry of an array, that is raised to another where it is below: what it is afterwards, and that no other entry changes.
 use mathlib.Core.Path.{_≡_, ap, _∙_}
 use mathlib.Core.List.{List}
 use Prim.Native.Nat.{ℕ, _≤_, _<_, max}
 use native.Mathlib.Omega.{arith}
 use lib.ListN.{length, getD, set, length-set}
 use lib.Seq.{getD-set-same, getD-set-other}
+
+-- the greater of two numbers
+pub later : (e f : ℕ) → e < f → f ≡ max e f
+later e f h = omega arith
+
+pub not-later : (e f : ℕ) → f ≤ e → e ≡ max e f
+not-later e f h = omega arith
 
 -- entry t raised to x
 pub record Lifted (t x : ℕ) (before after : List ℕ) : Type 0 where
