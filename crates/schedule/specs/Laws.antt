@@ -1,5 +1,6 @@
 pub mod Rows
 pub mod Held
+pub mod Sent
 pub mod Ties
 pub mod Planner
 pub mod Checker

@@ -1,38 +1,15 @@
 -- `messages::of_edge`: each array is read at the place that `Sender` speaks of.
-use mathlib.Core.Path.{_≡_}
-use mathlib.Core.List.{List}
-use Prim.Native.Nat.{ℕ, _+_, _*_, _≤_, _<_}
+use Prim.Native.Nat.{_+_, _*_, _≤_}
 use borrow.Author.Needs.{needs}
 use lib.ListN.{getD}
 use Rattle.job.specs.Limits.{mostDuration}
 use Rattle.etf.specs.Topology.{entry}
 use Rattle.etf.specs.Bounds.{mostMessageTime}
 use Rattle.etf.specs.Checker.{latestStart}
-use Rattle.schedule.specs.Pass.{messageAt, reachAt, Sender}
+use Rattle.schedule.specs.Pass.{Sender}
+use Rattle.schedule.specs.Laws.Sent.{row-there, sent-most, time-is, time-most, arrival-is}
 use Rattle.schedule.proofs.messages.of_edge.Statement.{statement}
 use Rattle.schedule.proofs.messages.of_edge.Tie as tie
-
--- what is read: the task s that the edge comes from, its processor p, and how many messages there are
-module _ {durations from counts : List ℕ} {costs : List (List ℕ)} {starts processors : List ℕ} {q k : ℕ}
-    (S : Sender durations from counts costs starts processors q k) {s p : ℕ} (s-is : s ≡ getD from k 0)
-    (p-is : p ≡ getD processors s 0) where
-  row-there : p < 16
-  row-there = rw (p-is, s-is) (S .on-processor)
-
-  sent-most : getD starts s 0 + getD durations s 0 ≤ latestStart + mostDuration
-  sent-most = rw s-is (S .in-time)
-
-  module _ {w : ℕ} (w-is : w ≡ getD counts k 0) where
-    time-is : w * entry costs p q ≡ messageAt durations from counts costs starts processors q k
-    unfolding messageAt
-    time-is = rw (p-is, s-is, w-is)
-
-    time-most : w * entry costs p q ≤ mostMessageTime
-    time-most = rw time-is (S .near)
-
-    arrival-is : getD starts s 0 + getD durations s 0 + w * entry costs p q ≡ reachAt durations from counts costs starts processors q k
-    unfolding reachAt
-    arrival-is = rw (time-is, s-is)
 
 -- ---- the places, from where the processor was read
 
