@@ -27,7 +27,7 @@ fn greatest_in(row: &[u32], n: usize) -> u32
 }
 
 // The greatest cost between two of the first n processors.
-fn greatest_cost(costs: [[u32; 16]; 16], n: usize) -> u32
+pub fn greatest_cost(costs: [[u32; 16]; 16], n: usize) -> u32
     requires { ⌜ (n ≤ 16) × ((p : ℕ) → p < 16 → length (getD costs p []) ≡ 16) ⌝ }
     ensures { λ r. ⌜ r ≡ greatestIn costs n ⌝ }
 {
@@ -70,7 +70,7 @@ fn sum(edges: usize, from: &[u8], to: &[u8], counts: &[u16], cost: u32) -> u32
     most
 }
 
-// The dearest chain of an instance.
+// The dearest chain of an instance; `cost` is the greatest cost between two processors.
 pub fn dearest<'a>(
     n: usize,
     tasks: usize,
@@ -80,11 +80,12 @@ pub fn dearest<'a>(
     to: &'a [u8],
     counts: &'a [u16],
     costs: [[u32; 16]; 16],
+    cost: u32,
 ) -> u32
     requires { ⌜ Plannable (byNumber n tasks edges (now durations) (now from) (now to) (now counts) costs) ⌝ }
+    requires { ⌜ cost ≡ greatestIn costs n ⌝ }
     ensures { λ r. ⌜ r ≡ dearestOf (instanceIn
         (byNumber n tasks edges (now (durations .entry)) (now (from .entry)) (now (to .entry)) (now (counts .entry)) costs)) ⌝ }
 {
-    let cost = greatest_cost(costs, n);
     sum(edges, from, to, counts, cost)
 }

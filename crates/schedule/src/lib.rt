@@ -314,7 +314,8 @@ fn measure<'a>(
         starts,
         processors,
     );
-    let dearest = chains::dearest(n, tasks, edges, durations, from, to, counts, costs);
+    let most = chains::greatest_cost(costs, n);
+    let dearest = chains::dearest(n, tasks, edges, durations, from, to, counts, costs, most);
     Figures { cover, dearest }
 }
 

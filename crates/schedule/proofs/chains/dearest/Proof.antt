@@ -1,27 +1,20 @@
--- `chains::dearest`: the cost found is the instance's greatest, and what the edges sum to with it is the instance's dearest chain.
+-- `chains::dearest`: what the edges sum to with the instance's greatest cost is its dearest chain.
 use native.Mathlib.Omega.{arith}
 use Rattle.schedule.specs.Laws.Held.{climb, edges-there}
 use Rattle.schedule.specs.Laws.Walk.DearestChain.{messages-fit, dearest-found}
 use Rattle.schedule.proofs.chains.dearest.Statement.{statement}
 use Rattle.schedule.proofs.chains.dearest.Tie as tie
 
--- where the function begins, from where the greatest cost is known
-abbrev at-start : tie.After-greatest-cost → tie.Start
-at-start x = x .before .before .before .before .before
-
-greatest-cost-requires : tie.Need-greatest-cost-requires
-greatest-cost-requires c κs =
-    let F = c .before .before .before .before .pre in
-    (F .few-processors, F .row-size)
-
 sum-requires : tie.Need-sum-requires
 sum-requires c κs =
-    let F = at-start c .pre in
-    let fits = messages-fit F (c .greatest-cost .ensures) in
-    (edges-there F, (climb F, ((λ k h. (F .forward k h, omega (arith, F .within k h, F .few-tasks))), fits)))
+    let given = c .before .before .before .before .pre in
+    let F = given .0 in
+    (edges-there F, (climb F, ((λ k h. (F .forward k h, omega (arith, F .within k h, F .few-tasks))), messages-fit F (given .1))))
 
 returns : tie.Need-returns
-returns c = dearest-found (at-start (c .before) .pre) (c .before .greatest-cost .ensures) (c .sum .ensures)
+returns c =
+    let given = c .before .before .before .before .before .pre in
+    dearest-found (given .0) (given .1) (c .sum .ensures)
 
 pub dearest-spec : {M : Type 1} → statement M
-dearest-spec = tie.close (tie.spec greatest-cost-requires sum-requires returns)
+dearest-spec = tie.close (tie.spec sum-requires returns)
