@@ -171,14 +171,22 @@ module _ {by : Job → Instance} (rule : TieRule by) (j : Job) (a : Accepted j) 
   pub dearest-same : dearest I ≡ dearest (instance j)
   dearest-same = rw (rule .is-by j) (dearest-ordered (instance j) (rule .order j))
 
+  -- the comparison of a plan's end with an ideal schedule of the job, with some figure of the plan in the place of C
+  abbrev Compared : (Instance → ℕ) → Ideal (instance j) → Instance → Type 0
+  Compared figure S J =
+      WithinResults (j .platform .processors) (end J (resultOf j) (planned J)) (makespan (instance j) S) (figure J)
+      (dearestResult J (resultOf j) (planned J)) (dearest J)
+
+  -- where it holds in any priority order, it holds in that of the rule
+  in-order : (figure : Instance → ℕ) (S : Ideal (instance j))
+      → ((order : List ℕ) → WellFormed (ordered order (instance j)) → Compared figure S (ordered order (instance j))) → Compared figure S I
+  in-order figure S each =
+      subst (λ (J : Instance). WellFormed J → Compared figure S J) (sym (rule .is-by j)) (each (rule .order j)) well-formed
+
   -- 00, demand 3, and 02 §6: "The distance from the rival is shown over an arbitrary priority order": E, C and the result time are those of
   -- the plan in that order, F is of any ideal schedule of the job, which knows of none
   pub within : (S : Ideal (instance j))
       → WithinResults (j .platform .processors) (end I (resultOf j) (planned I)) (makespan (instance j) S) (cover I)
       (dearestResult I (resultOf j) (planned I)) (dearest I)
   unfolding instance
-  within S =
-      subst (λ (J : Instance). WellFormed J
-      → WithinResults (j .platform .processors) (end J (resultOf j) (planned J)) (makespan (instance j) S) (cover J)
-      (dearestResult J (resultOf j) (planned J)) (dearest J))
-      (sym (rule .is-by j)) (λ W. any-order-within (instance j) (rule .order j) W (resultOf j) S) well-formed
+  within S = in-order cover S (λ order W. any-order-within (instance j) order W (resultOf j) S)
