@@ -3,7 +3,7 @@ use mathlib.Core.Bool.{Bool, true, false, _&&_, _||_}
 use mathlib.Core.Option.{Option, none, some}
 use mathlib.Core.Path.{_≡_}
 use mathlib.Core.List.{List, [], _∷_, _++_}
-use Prim.Native.Nat.{ℕ, zero, suc, max}
+use Prim.Native.Nat.{ℕ, zero, suc, min, max}
 use Rattle.base.specs.Choice.{pick}
 
 -- a is a member of a list
@@ -36,6 +36,12 @@ filter p (x ∷ xs) = pick (p x) (x ∷ filter p xs) (filter p xs)
 unfoldable pub greatest : {A : Type 0} → (A → ℕ) → List A → ℕ
 greatest f [] = 0
 greatest f (x ∷ xs) = max (f x) (greatest f xs)
+
+-- the smallest value of f on a list, 0 on the empty list
+unfoldable pub smallest : {A : Type 0} → (A → ℕ) → List A → ℕ
+smallest f [] = 0
+smallest f (x ∷ []) = f x
+smallest f (x ∷ (y ∷ l)) = min (f x) (smallest f (y ∷ l))
 
 -- x, unless the best of those after it beats x
 unfoldable pub keep : {A : Type 0} → (A → A → Bool) → A → Option A → A

@@ -1,12 +1,12 @@
 -- The worked cases of document 01 ("Ticks worked out") in one table, held to the definitions by computing them; after them cases that its
--- words settle and its list does not have, cases of document 02 §1, §2 and §6, and the small inputs of the refusal table that are the
+-- words settle and its list does not have, cases of document 02 §1, §2, §6 and §7, and the small inputs of the refusal table that are the
 -- checker's. In the documents' words.
 use mathlib.Core.Option.{Option, none, some, bind, orElse}
 use mathlib.Core.Path.{_≡_, refl, sym, _∙_}
 use mathlib.Core.List.{List, [], _∷_, _++_, map, flatMap, map-append}
 use Prim.Native.Nat.{ℕ}
 use lib.ListN.{getD}
-use Rattle.base.specs.Lists.{upto, any, all, filter, greatest, keep, best}
+use Rattle.base.specs.Lists.{upto, any, all, filter, greatest, smallest, keep, best}
 use Rattle.job.specs.declared.Platform.{Platform}
 use Rattle.job.specs.Job.{Edge, Wire, Result, wireCost, resultCount, Job, blank, withRack, withWires, withTasks, withEdges, withResults}
 use Rattle.etf.specs.Instance.{Instance, ordered, tasks, duration, into, outOf, messageTime}
@@ -16,6 +16,7 @@ use Rattle.etf.specs.Rule.{atMost, move, settle, nextMoment, free, finis
 use Rattle.etf.specs.Rule.{planned, roundsIn, rounds}
 use Rattle.etf.specs.Cover.{running, busy, idle, someIdle, latestIdleTick, lowestIdle, later, latestInto, back, walk, lastTask, cover}
 use Rattle.etf.specs.Dearest.{greatestCost, dearestTo, dearest}
+use Rattle.etf.specs.Least.{serving, moves, leastFrom, lastTasks, least}
 use Rattle.etf.specs.Checker.{firstAnswer, misplaced, overlap, early, check}
 use Rattle.etf.specs.Topology.{hypercubeHops, difference, ringHops, hops, cost, square}
 use Rattle.etf.specs.OfJob.{costsOf, instance, instanceByWeight, resultOf}
@@ -35,11 +36,11 @@ pub data Question : Type 0 where
   planByWeight : Job → Question
 
 -- the numbers that program `plan` prints after its header:
--- of each task its number, processor, start and finish, then the end, C and the dearest chain
+-- of each task its number, processor, start and finish, then the end, C, the least cover and the dearest chain
 pub printed : Instance → (ℕ → ℕ) → List (List ℕ)
 printed I result =
     map (λ (u : Placement). u .task ∷ u .processor ∷ u .start ∷ finish I u ∷ []) (byTask I (planned I))
-    ++ ((end I result (planned I) ∷ []) ∷ (cover I ∷ []) ∷ (dearest I ∷ []) ∷ [])
+    ++ ((end I result (planned I) ∷ []) ∷ (cover I ∷ []) ∷ (least I ∷ []) ∷ (dearest I ∷ []) ∷ [])
 
 -- 0 for a yes, else the number
 abbrev refusal : Option ℕ → ℕ
@@ -48,11 +49,12 @@ refusal (some k) = k
 
 -- the lines that answer a question; all definitions are opened, so that they compute, also where another crate opens this one name
 unfoldable pub answer : Question → List (List ℕ)
-unfolding printed instance instanceByWeight ordered outOf weightIn weight put inserted byWeight upto any all filter greatest keep best
-    duration into messageTime
+unfolding printed instance instanceByWeight ordered outOf weightIn weight put inserted byWeight
+    upto any all filter greatest smallest keep best duration into messageTime
     placed placementOf messageTimeTo arrival lastFinish resultCount resultTime end dearestResult scheduleOf byTask
     atMost move settle nextMoment free finished ready pair pairs choice complete round run planned roundsIn rounds
     running busy idle someIdle latestIdleTick lowestIdle later latestInto back walk lastTask cover greatestCost dearestTo dearest
+    serving moves leastFrom lastTasks least
     firstAnswer misplaced overlap early check hypercubeHops difference ringHops hops cost wireCost square costsOf blank bind orElse flatMap
 answer (planOf j) = printed (instance j) (resultOf j)
 answer (planBy order j) = printed (ordered order (instance j)) (resultOf j)
@@ -103,24 +105,24 @@ fork c lines = plan (rack 2 0 c) (3 ∷ 2 ∷ 2 ∷ []) (link 0 1 1 ∷ link 0 2
 abbrev row : ℕ → ℕ → ℕ → ℕ → List ℕ
 row T P s f = T ∷ P ∷ s ∷ f ∷ []
 
-abbrev totals : ℕ → ℕ → ℕ → List (List ℕ)
-totals e c d = (e ∷ []) ∷ (c ∷ []) ∷ (d ∷ []) ∷ []
+abbrev totals : ℕ → ℕ → ℕ → ℕ → List (List ℕ)
+totals e c l d = (e ∷ []) ∷ (c ∷ []) ∷ (l ∷ []) ∷ (d ∷ []) ∷ []
 
 -- document 01's worked cases
 pub worked : List Case
 worked =
     -- A
-    plan (rack 2 0 2) (4 ∷ 3 ∷ 2 ∷ []) (link 0 2 1 ∷ link 1 2 3 ∷ []) (row 0 0 0 4 ∷ row 1 1 0 3 ∷ row 2 1 6 8 ∷ totals 8 6 6)
+    plan (rack 2 0 2) (4 ∷ 3 ∷ 2 ∷ []) (link 0 2 1 ∷ link 1 2 3 ∷ []) (row 0 0 0 4 ∷ row 1 1 0 3 ∷ row 2 1 6 8 ∷ totals 8 6 2 6)
     -- B
-    ∷ plan (rack 1 0 0) (1 ∷ []) [] (row 0 0 0 1 ∷ totals 1 0 0)
+    ∷ plan (rack 1 0 0) (1 ∷ []) [] (row 0 0 0 1 ∷ totals 1 0 0 0)
     -- D, c = 1: step 2 on board 1 at 4
-    ∷ fork 1 (row 0 0 0 3 ∷ row 1 0 3 5 ∷ row 2 1 4 6 ∷ totals 6 1 1)
+    ∷ fork 1 (row 0 0 0 3 ∷ row 1 0 3 5 ∷ row 2 1 4 6 ∷ totals 6 1 1 1)
     -- E, c = 2: board 1 at 5, since 5 is not above NM 5
-    ∷ fork 2 (row 0 0 0 3 ∷ row 1 0 3 5 ∷ row 2 1 5 7 ∷ totals 7 2 2)
+    ∷ fork 2 (row 0 0 0 3 ∷ row 1 0 3 5 ∷ row 2 1 5 7 ∷ totals 7 2 2 2)
     -- G, c = 3: board 0 at 5
-    ∷ fork 3 (row 0 0 0 3 ∷ row 1 0 3 5 ∷ row 2 0 5 7 ∷ totals 7 3 3)
+    ∷ fork 3 (row 0 0 0 3 ∷ row 1 0 3 5 ∷ row 2 0 5 7 ∷ totals 7 3 3 3)
     -- H, c = 5: board 0 at 5
-    ∷ fork 5 (row 0 0 0 3 ∷ row 1 0 3 5 ∷ row 2 0 5 7 ∷ totals 7 5 5)
+    ∷ fork 5 (row 0 0 0 3 ∷ row 1 0 3 5 ∷ row 2 0 5 7 ∷ totals 7 5 5 5)
     -- J: cube, boards 5 and 10
     ∷ between (rack 16 1 1) 5 10 4
     -- K: ring of 5, 0 and 4
@@ -146,16 +148,16 @@ unequal =
     -- A with counts of 1: step 2 goes to board 0 where the way there is cheap, and else to board 1
     record {
       question = planOf (wires-2 5 1 (4 ∷ 3 ∷ 2 ∷ []) (link 0 2 1 ∷ link 1 2 1 ∷ []));
-      lines = row 0 0 0 4 ∷ row 1 1 0 3 ∷ row 2 0 4 6 ∷ totals 6 5 5;
+      lines = row 0 0 0 4 ∷ row 1 1 0 3 ∷ row 2 0 4 6 ∷ totals 6 5 5 5;
     }
     ∷ record {
       question = planOf (wires-2 1 5 (4 ∷ 3 ∷ 2 ∷ []) (link 0 2 1 ∷ link 1 2 1 ∷ []));
-      lines = row 0 0 0 4 ∷ row 1 1 0 3 ∷ row 2 1 5 7 ∷ totals 7 5 5;
+      lines = row 0 0 0 4 ∷ row 1 1 0 3 ∷ row 2 1 5 7 ∷ totals 7 5 1 5;
     }
     -- the walk's messages go from the predecessor's board to the idle one
     ∷ record {
       question = planOf (wires-2 2 1 (3 ∷ 2 ∷ 2 ∷ []) (link 0 1 1 ∷ link 0 2 1 ∷ []));
-      lines = row 0 0 0 3 ∷ row 1 0 3 5 ∷ row 2 1 5 7 ∷ totals 7 2 2;
+      lines = row 0 0 0 3 ∷ row 1 0 3 5 ∷ row 2 1 5 7 ∷ totals 7 2 2 2;
     }
     -- 13 by the way that the messages go
     ∷ sent (0 ∷ 1 ∷ []) (0 ∷ 9 ∷ []) 13
@@ -180,32 +182,32 @@ two results = withResults (job (rack 2 0 1) [] (5 ∷ 2 ∷ []) []) results
 pub delivered : List Case
 delivered =
     -- A: the result of step 2, on board 1, is at the gate 2 ticks after the last finish; C stays 6
-    record { question = planOf A-delivered; lines = row 0 0 0 4 ∷ row 1 1 0 3 ∷ row 2 1 6 8 ∷ totals 10 6 6 }
+    record { question = planOf A-delivered; lines = row 0 0 0 4 ∷ row 1 1 0 3 ∷ row 2 1 6 8 ∷ totals 10 6 2 6 }
     ∷ record { question = resultTimeOf A-delivered; lines = (8 ∷ []) ∷ (2 ∷ []) ∷ [] }
     -- neither the last finish nor the last finish and the dearest result time: step 0's result takes nothing, step 1's is there at 2 + 4
-    ∷ record { question = planOf (two (result 0 3 ∷ result 1 4 ∷ [])); lines = row 0 0 0 5 ∷ row 1 1 0 2 ∷ totals 6 0 0 }
+    ∷ record { question = planOf (two (result 0 3 ∷ result 1 4 ∷ [])); lines = row 0 0 0 5 ∷ row 1 1 0 2 ∷ totals 6 0 0 0 }
     ∷ record { question = resultTimeOf (two (result 0 3 ∷ result 1 4 ∷ [])); lines = (5 ∷ []) ∷ (4 ∷ []) ∷ [] }
     -- a result that is there before the last finish
-    ∷ record { question = planOf (two (result 1 2 ∷ [])); lines = row 0 0 0 5 ∷ row 1 1 0 2 ∷ totals 5 0 0 }
+    ∷ record { question = planOf (two (result 1 2 ∷ [])); lines = row 0 0 0 5 ∷ row 1 1 0 2 ∷ totals 5 0 0 0 }
     ∷ record { question = resultTimeOf (two (result 1 2 ∷ [])); lines = (5 ∷ []) ∷ (2 ∷ []) ∷ [] }
     -- a ring of 4: board 2 is two hops from the gate, board 3 one
     ∷ record {
       question = planOf (withResults (job (rack 4 2 2) [] (1 ∷ 1 ∷ 1 ∷ 1 ∷ []) []) (result 1 2 ∷ result 2 2 ∷ result 3 3 ∷ []));
-      lines = row 0 0 0 1 ∷ row 1 1 0 1 ∷ row 2 2 0 1 ∷ row 3 3 0 1 ∷ totals 9 0 0;
+      lines = row 0 0 0 1 ∷ row 1 1 0 1 ∷ row 2 2 0 1 ∷ row 3 3 0 1 ∷ totals 9 0 0 0;
     }
     -- the walk begins with the step that finishes last, 1, and not with the one whose result is there last, 2: C is 1 and not 2
     ∷ record {
       question = planOf (withResults (job (rack 2 0 1) [] (1 ∷ 3 ∷ 1 ∷ []) (link 0 1 1 ∷ link 0 2 2 ∷ [])) (result 2 1 ∷ []));
-      lines = row 0 0 0 1 ∷ row 1 0 1 4 ∷ row 2 1 3 4 ∷ totals 5 1 2;
+      lines = row 0 0 0 1 ∷ row 1 0 1 4 ∷ row 2 1 3 4 ∷ totals 5 1 1 2;
     }
     -- the way to board 0 counts, and not the way back
     ∷ record {
       question = planOf (withResults (wires-2 5 1 (5 ∷ 2 ∷ []) []) (result 1 4 ∷ []));
-      lines = row 0 0 0 5 ∷ row 1 1 0 2 ∷ totals 6 0 0;
+      lines = row 0 0 0 5 ∷ row 1 1 0 2 ∷ totals 6 0 0 0;
     }
     ∷ record {
       question = planOf (withResults (wires-2 1 5 (5 ∷ 2 ∷ []) []) (result 1 4 ∷ []));
-      lines = row 0 0 0 5 ∷ row 1 1 0 2 ∷ totals 22 0 0;
+      lines = row 0 0 0 5 ∷ row 1 1 0 2 ∷ totals 22 0 0 0;
     }
     ∷ []
 
@@ -244,20 +246,38 @@ by-weight =
     -- a long branch: by number steps 0 and 1 go first, and step 4, of 4 ticks, begins at 2; by weight step 2 goes first, and the end is
     -- 5 in place of 6
     weighed long-branch (2 ∷ 2 ∷ 5 ∷ 1 ∷ 4 ∷ []) (2 ∷ 4 ∷ 0 ∷ 1 ∷ 3 ∷ [])
-    ∷ numbered long-branch (row 0 0 0 1 ∷ row 1 1 0 1 ∷ row 2 0 1 2 ∷ row 3 1 2 3 ∷ row 4 0 2 6 ∷ totals 6 1 1)
-    ∷ heavier long-branch (row 0 1 0 1 ∷ row 1 1 1 2 ∷ row 2 0 0 1 ∷ row 3 1 2 3 ∷ row 4 0 1 5 ∷ totals 5 0 1)
+    ∷ numbered long-branch (row 0 0 0 1 ∷ row 1 1 0 1 ∷ row 2 0 1 2 ∷ row 3 1 2 3 ∷ row 4 0 2 6 ∷ totals 6 1 1 1)
+    ∷ heavier long-branch (row 0 1 0 1 ∷ row 1 1 1 2 ∷ row 2 0 0 1 ∷ row 3 1 2 3 ∷ row 4 0 1 5 ∷ totals 5 0 0 1)
     -- a tie in weight: steps 0 and 2 both have 3, and 0 goes first; then 1, which has 2
     ∷ weighed one-weight (3 ∷ 2 ∷ 3 ∷ 1 ∷ []) (0 ∷ 2 ∷ 1 ∷ 3 ∷ [])
-    ∷ heavier one-weight (row 0 0 0 2 ∷ row 1 0 5 6 ∷ row 2 0 2 5 ∷ row 3 0 6 7 ∷ totals 7 0 0)
+    ∷ heavier one-weight (row 0 0 0 2 ∷ row 1 0 5 6 ∷ row 2 0 2 5 ∷ row 3 0 6 7 ∷ totals 7 0 0 0)
     -- the greatest weight among the successors and not their sum: step 0 has 1 + 3, so step 3 with 5 goes first
     ∷ weighed two-successors (4 ∷ 3 ∷ 3 ∷ 5 ∷ []) (3 ∷ 0 ∷ 1 ∷ 2 ∷ [])
-    ∷ heavier two-successors (row 0 0 5 6 ∷ row 1 0 6 9 ∷ row 2 0 9 12 ∷ row 3 0 0 5 ∷ totals 12 0 0)
+    ∷ heavier two-successors (row 0 0 5 6 ∷ row 1 0 6 9 ∷ row 2 0 9 12 ∷ row 3 0 0 5 ∷ totals 12 0 0 0)
     -- the start comes before the weight: at 1 step 3 starts at once, and step 2, with the greater weight, at 2
     ∷ weighed start-first (6 ∷ 6 ∷ 5 ∷ 1 ∷ []) (0 ∷ 1 ∷ 2 ∷ 3 ∷ [])
-    ∷ heavier start-first (row 0 0 0 1 ∷ row 1 1 0 1 ∷ row 2 1 2 7 ∷ row 3 0 1 2 ∷ totals 7 1 1)
+    ∷ heavier start-first (row 0 0 0 1 ∷ row 1 1 0 1 ∷ row 2 1 2 7 ∷ row 3 0 1 2 ∷ totals 7 1 1 1)
     -- of two steps ready at one tick the heavier takes the board where it starts at once: step 3 and not step 2, on board 0 at 3
-    ∷ numbered at-once (row 0 0 0 3 ∷ row 1 1 0 2 ∷ row 2 0 3 4 ∷ row 3 1 4 7 ∷ row 4 1 2 3 ∷ totals 7 1 2)
-    ∷ heavier at-once (row 0 0 0 3 ∷ row 1 1 0 2 ∷ row 2 1 4 5 ∷ row 3 0 3 6 ∷ row 4 1 2 3 ∷ totals 6 0 2)
+    ∷ numbered at-once (row 0 0 0 3 ∷ row 1 1 0 2 ∷ row 2 0 3 4 ∷ row 3 1 4 7 ∷ row 4 1 2 3 ∷ totals 7 1 1 2)
+    ∷ heavier at-once (row 0 0 0 3 ∷ row 1 1 0 2 ∷ row 2 1 4 5 ∷ row 3 0 3 6 ∷ row 4 1 2 3 ∷ totals 6 0 0 2)
+    ∷ []
+
+-- document 02 §7: C, the least cover, and why the one is below the other or is not. In case A both boards are idle in tick 5, and through
+-- board 1 step 0's bundle of 2 serves in place of step 1's of 6 to board 0; another idle board alone: `further`
+pub tightest : List Case
+tightest =
+    -- another predecessor alone: from step 2 to step 0 at once, and not through step 1, whose bundle comes later
+    plan (rack 2 0 1) (1 ∷ 1 ∷ 1 ∷ []) (link 0 1 1 ∷ link 0 2 1 ∷ link 1 2 1 ∷ [])
+    (row 0 0 0 1 ∷ row 1 0 1 2 ∷ row 2 0 2 3 ∷ totals 3 2 1 2)
+    -- another step that finishes last alone: step 2, which waits for nothing, and not step 1
+    ∷ plan (rack 3 0 1) (1 ∷ 1 ∷ 2 ∷ []) (link 0 1 1 ∷ []) (row 0 0 0 1 ∷ row 1 0 1 2 ∷ row 2 1 0 2 ∷ totals 2 1 0 1)
+    -- both another board and another predecessor there: neither alone goes below C
+    ∷ plan (rack 3 0 1) (1 ∷ 2 ∷ 1 ∷ []) (link 0 2 1 ∷ link 1 2 2 ∷ []) (row 0 0 0 1 ∷ row 1 1 0 2 ∷ row 2 1 2 3 ∷ totals 3 2 1 2)
+    -- a bundle that is there at the tick does not serve: step 0's is at board 0 at 1, in time for tick 1, and step 1's at 2
+    ∷ plan (rack 2 0 1) (1 ∷ 1 ∷ 1 ∷ []) (link 0 2 1 ∷ link 1 2 1 ∷ []) (row 0 0 0 1 ∷ row 1 1 0 1 ∷ row 2 0 2 3 ∷ totals 3 1 1 1)
+    -- the cheaper move is not on the cheaper walk: step 2 to step 1 takes 1, and then 2 more; to step 0 at once takes 2
+    ∷ plan (rack 2 0 1) (1 ∷ 1 ∷ 1 ∷ []) (link 0 1 2 ∷ link 0 2 2 ∷ link 1 2 1 ∷ [])
+    (row 0 0 0 1 ∷ row 1 0 1 2 ∷ row 2 0 2 3 ∷ totals 3 2 2 3)
     ∷ []
 
 -- what its words settle beside them
@@ -265,23 +285,23 @@ pub further : List Case
 further =
     -- shortcut 3, E with one step more: board 1 is promised to step 2 from 5 on, so it is not free at 3, and step 3 waits for board 0
     plan (rack 2 0 2) (3 ∷ 2 ∷ 2 ∷ 2 ∷ []) (link 0 1 1 ∷ link 0 2 1 ∷ link 0 3 1 ∷ [])
-    (row 0 0 0 3 ∷ row 1 0 3 5 ∷ row 2 1 5 7 ∷ row 3 0 5 7 ∷ totals 7 2 2)
+    (row 0 0 0 3 ∷ row 1 0 3 5 ∷ row 2 1 5 7 ∷ row 3 0 5 7 ∷ totals 7 2 2 2)
     -- the walk begins with the lowest of two steps that finish last, 1 and not 2
-    ∷ plan (rack 2 0 1) (1 ∷ 3 ∷ 1 ∷ []) (link 0 1 1 ∷ link 0 2 2 ∷ []) (row 0 0 0 1 ∷ row 1 0 1 4 ∷ row 2 1 3 4 ∷ totals 4 1 2)
+    ∷ plan (rack 2 0 1) (1 ∷ 3 ∷ 1 ∷ []) (link 0 1 1 ∷ link 0 2 2 ∷ []) (row 0 0 0 1 ∷ row 1 0 1 4 ∷ row 2 1 3 4 ∷ totals 4 1 1 2)
     -- it takes the lowest of two idle boards, 0 and not 1
-    ∷ plan (rack 2 0 1) (1 ∷ 1 ∷ 1 ∷ []) (link 0 2 1 ∷ link 1 2 2 ∷ []) (row 0 0 0 1 ∷ row 1 1 0 1 ∷ row 2 1 2 3 ∷ totals 3 2 2)
+    ∷ plan (rack 2 0 1) (1 ∷ 1 ∷ 1 ∷ []) (link 0 2 1 ∷ link 1 2 2 ∷ []) (row 0 0 0 1 ∷ row 1 1 0 1 ∷ row 2 1 2 3 ∷ totals 3 2 1 2)
     -- and of two predecessors that arrive there at one tick the lowest, 0 and not 1
     ∷ plan (rack 2 0 1) (1 ∷ 1 ∷ 1 ∷ []) (link 0 1 2 ∷ link 0 2 2 ∷ link 1 2 1 ∷ [])
-    (row 0 0 0 1 ∷ row 1 0 1 2 ∷ row 2 0 2 3 ∷ totals 3 2 3)
+    (row 0 0 0 1 ∷ row 1 0 1 2 ∷ row 2 0 2 3 ∷ totals 3 2 2 3)
     -- shortcut 5: the step with the last number does not finish last
-    ∷ plan (rack 2 0 0) (5 ∷ 1 ∷ []) [] (row 0 0 0 5 ∷ row 1 1 0 1 ∷ totals 5 0 0)
+    ∷ plan (rack 2 0 0) (5 ∷ 1 ∷ []) [] (row 0 0 0 5 ∷ row 1 1 0 1 ∷ totals 5 0 0 0)
     -- D with the priority order 2, 1, 0: step 2 goes before step 1
     ∷ record {
       question = planBy (2 ∷ 1 ∷ 0 ∷ []) (job (rack 2 0 1) [] (3 ∷ 2 ∷ 2 ∷ []) (link 0 1 1 ∷ link 0 2 1 ∷ []));
-      lines = row 0 0 0 3 ∷ row 1 1 4 6 ∷ row 2 0 3 5 ∷ totals 6 1 1;
+      lines = row 0 0 0 3 ∷ row 1 1 4 6 ∷ row 2 0 3 5 ∷ totals 6 1 1 1;
     }
     -- one board: a link costs nothing, and the dearest chain is 0
-    ∷ plan (rack 1 0 5) (1 ∷ 1 ∷ []) (link 0 1 3 ∷ []) (row 0 0 0 1 ∷ row 1 0 1 2 ∷ totals 2 0 0)
+    ∷ plan (rack 1 0 5) (1 ∷ 1 ∷ []) (link 0 1 3 ∷ []) (row 0 0 0 1 ∷ row 1 0 1 2 ∷ totals 2 0 0 0)
     -- a chain of 3 takes 5 rounds
     ∷ record {
       question = roundsOf (job (rack 2 0 1) [] (2 ∷ 1 ∷ 3 ∷ []) (link 0 1 1 ∷ link 1 2 1 ∷ []));
@@ -312,7 +332,7 @@ checks =
 
 -- the table
 pub cases : List Case
-cases = worked ++ (further ++ (unequal ++ (delivered ++ (by-weight ++ checks))))
+cases = worked ++ (further ++ (unequal ++ (delivered ++ (by-weight ++ (tightest ++ checks)))))
 
 -- the lines of each case of a table answer its question
 abbrev pub Right : List Case → Type 0
@@ -345,6 +365,10 @@ by-weight-right : Right by-weight
 unfolding by-weight answer
 by-weight-right = refl
 
+tightest-right : Right tightest
+unfolding tightest answer
+tightest-right = refl
+
 checks-right : Right checks
 unfolding checks answer
 checks-right = refl
@@ -353,7 +377,8 @@ checks-right = refl
 pub cases-hold : Right cases
 unfolding cases
 cases-hold =
-    join worked (further ++ (unequal ++ (delivered ++ (by-weight ++ checks)))) worked-right
-    (join further (unequal ++ (delivered ++ (by-weight ++ checks))) further-right
-    (join unequal (delivered ++ (by-weight ++ checks)) unequal-right
-    (join delivered (by-weight ++ checks) delivered-right (join by-weight checks by-weight-right checks-right))))
+    join worked (further ++ (unequal ++ (delivered ++ (by-weight ++ (tightest ++ checks))))) worked-right
+    (join further (unequal ++ (delivered ++ (by-weight ++ (tightest ++ checks)))) further-right
+    (join unequal (delivered ++ (by-weight ++ (tightest ++ checks))) unequal-right
+    (join delivered (by-weight ++ (tightest ++ checks)) delivered-right
+    (join by-weight (tightest ++ checks) by-weight-right (join tightest checks tightest-right checks-right)))))

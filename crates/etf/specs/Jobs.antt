@@ -17,6 +17,7 @@ use Rattle.etf.specs.Schedule.{Placement, placementOf, finish, arrival, 
 use Rattle.etf.specs.Rule.{planned}
 use Rattle.etf.specs.Cover.{cover}
 use Rattle.etf.specs.Dearest.{dearest}
+use Rattle.etf.specs.Least.{least}
 use Rattle.etf.specs.Ideal.{Ideal, makespan}
 use Rattle.etf.specs.Weight.{byWeight}
 use Rattle.etf.specs.Checker.{Keeps, check}
@@ -24,6 +25,7 @@ use Rattle.etf.specs.Topology.{hops, cost}
 use Rattle.etf.specs.OfJob.{costIn, costsOf, instance, instanceByWeight, TieRule, resultOf}
 use Rattle.etf.specs.Bounds.{mostCost, mostMessageTime, mostFinish, mostEnd}
 use Rattle.etf.specs.Results.{WithinResults, end-after, end-is, dearest-is, planned-without, any-order-within}
+use Rattle.etf.specs.LeastWalks.{any-order-within as least-in-order}
 use Rattle.etf.specs.Weights.{has-all, has-only}
 use Rattle.etf.specs.Laws.Costs.{cost-most}
 use Rattle.etf.specs.Laws.Times.{finish-most, last-most, arrival-most}
@@ -190,3 +192,10 @@ module _ {by : Job → Instance} (rule : TieRule by) (j : Job) (a : Accepted j) 
       (dearestResult I (resultOf j) (planned I)) (dearest I)
   unfolding instance
   within S = in-order cover S (λ order W. any-order-within (instance j) order W (resultOf j) S)
+
+  -- 02 §7: "the rival comparison holds with it in place of C (plus the result time where a job has one)"
+  pub least-within : (S : Ideal (instance j))
+      → WithinResults (j .platform .processors) (end I (resultOf j) (planned I)) (makespan (instance j) S) (least I)
+      (dearestResult I (resultOf j) (planned I)) (dearest I)
+  unfolding instance
+  least-within S = in-order least S (λ order W. least-in-order (instance j) order W (resultOf j) S)

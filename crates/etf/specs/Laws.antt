@@ -9,6 +9,8 @@ pub mod Idle
 pub mod Walk
 pub mod Back
 pub mod Dearest
+pub mod Moves
+pub mod Least
 pub mod Planned
 pub mod Count
 pub mod Bound

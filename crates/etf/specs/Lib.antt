@@ -5,6 +5,7 @@ pub mod Topology
 pub mod Rule
 pub mod Cover
 pub mod Dearest
+pub mod Least
 pub mod Checker
 pub mod Ideal
 pub mod Weight
@@ -18,6 +19,7 @@ pub mod Walks
 pub mod Chains
 pub mod WorstCase
 pub mod Results
+pub mod LeastWalks
 pub mod Priority
 pub mod Weights
 pub mod Choices

@@ -1,17 +1,17 @@
--- Membership laws for any, all, filter, map, flatMap, greatest and best, and lists by place. By induction on the list.
+-- Membership laws for any, all, filter, map, flatMap, greatest, smallest and best, and lists by place. By induction on the list.
 use mathlib.Core.Path.{_≡_, refl, ap, sym, _∙_, subst}
 use mathlib.Core.Logic.{_⊎_, inl, inr}
 use mathlib.Core.Bool.{Bool, true, false, not, _&&_, _||_}
 use mathlib.Core.Option.{Option, none, some}
 use mathlib.Core.List.{List, [], _∷_, _++_, map, flatMap}
-use Prim.Native.Nat.{ℕ, zero, suc, _≤_, _<_, max}
+use Prim.Native.Nat.{ℕ, zero, suc, _≤_, _<_, min, max}
 use native.Mathlib.Omega.{arith}
 use lib.Dec.{ltb, eqb, ltb→lt, lt→ltb, nltb→le, eqb→eq}
 use lib.Dec.{T as Holds}
 use lib.ListN.{length, getD, replicate, length-append, length-map, List·getD-append}
 use lib.Seq.{getD-at}
 use Rattle.base.specs.Choice.{pick}
-use Rattle.base.specs.Lists.{_∈_, here, there, upto, any, all, filter, greatest, keep, best}
+use Rattle.base.specs.Lists.{_∈_, here, there, upto, any, all, filter, greatest, smallest, keep, best}
 use Rattle.base.specs.Laws.Tests.{not-both, fails, both, first, second, or-left, or-right, or-cases, pick-yes, eq→eqb, le-or-lt}
 
 -- what holds of the head and of each member of the tail holds of each member
@@ -124,6 +124,24 @@ pub greatest-same : {A : Type 0} (f g : A → ℕ) (l : List A) → ((a : A) →
 unfolding greatest
 greatest-same f g [] e = refl
 greatest-same f g (x ∷ xs) e = cc (e x (here refl), greatest-same f g xs (λ a h. e a (there h)))
+
+-- no member's value is below the smallest
+pub smallest-le : {A : Type 0} (f : A → ℕ) (l : List A) (a : A) → a ∈ l → smallest f l ≤ f a
+unfolding smallest
+smallest-le f (x ∷ []) a h = for-cons (λ b. f x ≤ f b) (omega arith) (λ b k. absurd (in-nothing k)) a h
+smallest-le f (x ∷ (y ∷ l)) a h =
+    for-cons (λ b. min (f x) (smallest f (y ∷ l)) ≤ f b) (omega arith) (λ b k. omega (arith, smallest-le f (y ∷ l) b k)) a h
+
+-- and one member's is this one
+pub smallest-at : {A : Type 0} (f : A → ℕ) (x : A) (l : List A) → (a : A) × (a ∈ (x ∷ l)) × (smallest f (x ∷ l) ≡ f a)
+unfolding smallest
+smallest-at f x [] = (x, here refl, refl)
+smallest-at {A} f x (y ∷ l) = go (le-or-lt (f x) (smallest f (y ∷ l))) (smallest-at f y l)
+  where
+    go : (f x ≤ smallest f (y ∷ l)) ⊎ (smallest f (y ∷ l) < f x) → (a : A) × (a ∈ (y ∷ l)) × (smallest f (y ∷ l) ≡ f a)
+        → (a : A) × (a ∈ (x ∷ (y ∷ l))) × (min (f x) (smallest f (y ∷ l)) ≡ f a)
+    go (inl k) r = (x, here refl, omega arith)
+    go (inr k) r = (r .0, there (r .1), omega (arith, r .2))
 
 -- functions and tests that agree on each member
 pub map-same : {A B : Type 0} (f g : A → B) (l : List A) → ((a : A) → a ∈ l → f a ≡ g a) → map f l ≡ map g l
