@@ -74,10 +74,13 @@ pub cases-hold :
     × (smallCall file-a (7 ∷ 7 ∷ 7 ∷ 8 ∷ []) (7 ∷ 7 ∷ 7 ∷ []) (replicate 513 7) ≡ called (Plan (record { tasks = 3; end = 8 }))
     (0 ∷ 0 ∷ 6 ∷ 8 ∷ []) (0 ∷ 1 ∷ 1 ∷ []) (replicate 512 0 ++ (7 ∷ [])))
     × (smallCall apart (7 ∷ 7 ∷ []) (7 ∷ 7 ∷ []) (replicate 511 8) ≡ called (Refused 9) (7 ∷ 7 ∷ []) (7 ∷ 7 ∷ []) (replicate 511 8))
-    -- the cover call: C and the dearest chain, the slices as the planner leaves them; 9 for each slice, and the reader's number
-    × (coverCall file-a (7 ∷ 7 ∷ 7 ∷ 8 ∷ []) (7 ∷ 7 ∷ 7 ∷ []) (replicate 4096 7) .answer ≡ Cover (record { cover = 6; dearest = 6 }))
+    -- the cover call: C, the least cover (02 §7: "in case A it is 2") and the dearest chain, the slices as the planner leaves them; 9 for
+    -- each slice, and the reader's number
+    × (coverCall file-a (7 ∷ 7 ∷ 7 ∷ 8 ∷ []) (7 ∷ 7 ∷ 7 ∷ []) (replicate 4096 7) .answer
+    ≡ Cover (record { cover = 6; least = 2; dearest = 6 }))
     × (coverCall file-a (7 ∷ 7 ∷ 7 ∷ 8 ∷ []) (7 ∷ 7 ∷ 7 ∷ []) (replicate 4096 7) .starts ≡ 0 ∷ 0 ∷ 6 ∷ 8 ∷ [])
-    × (coverCall file-h (7 ∷ 7 ∷ 7 ∷ []) (7 ∷ 7 ∷ 7 ∷ []) (replicate 4096 7) .answer ≡ Cover (record { cover = 5; dearest = 5 }))
+    × (coverCall file-h (7 ∷ 7 ∷ 7 ∷ []) (7 ∷ 7 ∷ 7 ∷ []) (replicate 4096 7) .answer
+    ≡ Cover (record { cover = 5; least = 5; dearest = 5 }))
     × (coverCall apart (7 ∷ []) (7 ∷ 7 ∷ []) (replicate 4096 8) ≡ called (NotCovered 9) (7 ∷ []) (7 ∷ 7 ∷ []) (replicate 4096 8))
     × (coverCall apart (7 ∷ 7 ∷ []) (7 ∷ []) (replicate 4096 8) ≡ called (NotCovered 9) (7 ∷ 7 ∷ []) (7 ∷ []) (replicate 4096 8))
     × (coverCall apart (7 ∷ 7 ∷ []) (7 ∷ 7 ∷ []) (replicate 4095 8) ≡ called (NotCovered 9) (7 ∷ 7 ∷ []) (7 ∷ 7 ∷ []) (replicate 4095 8))
@@ -87,7 +90,7 @@ pub cases-hold :
     × (weightCall file-long fives fives (replicate 4096 7) .answer ≡ Plan (record { tasks = 5; end = 5 }))
     × (weightCall file-long fives fives (replicate 4096 7) .starts ≡ 0 ∷ 1 ∷ 0 ∷ 2 ∷ 1 ∷ [])
     × (weightCall file-long fives fives (replicate 4096 7) .processors ≡ 1 ∷ 1 ∷ 0 ∷ 1 ∷ 0 ∷ [])
-    × (weightCoverCall file-long fives fives (replicate 4096 7) .answer ≡ Cover (record { cover = 0; dearest = 1 }))
+    × (weightCoverCall file-long fives fives (replicate 4096 7) .answer ≡ Cover (record { cover = 0; least = 0; dearest = 1 }))
     × (weightCall apart (7 ∷ 7 ∷ []) (7 ∷ 7 ∷ []) (replicate 4095 8) ≡ called (Refused 9) (7 ∷ 7 ∷ []) (7 ∷ 7 ∷ []) (replicate 4095 8))
     -- the checker: 9 for each slice; places past m are not read
     × (checkCall apart (0 ∷ []) (0 ∷ 1 ∷ []) ≡ NotChecked 9)

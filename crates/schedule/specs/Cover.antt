@@ -6,15 +6,16 @@ use Rattle.job.specs.Read.{readJob}
 use Rattle.etf.specs.Instance.{Instance}
 use Rattle.etf.specs.Cover.{cover}
 use Rattle.etf.specs.Dearest.{dearest}
+use Rattle.etf.specs.Least.{least}
 use Rattle.etf.specs.OfJob.{instance, instanceByWeight}
 use Rattle.schedule.specs.declared.Figures.{Figures}
 use Rattle.schedule.specs.declared.Covered.{Covered}
 use Rattle.schedule.specs.declared.Covered.the-variants.{Cover, Refused}
 use Rattle.schedule.specs.Call.{Call, arrivalPlaces, planBy, callFor}
 
--- 01: "the cover call C and the dearest chain of the planner's plan"
+-- 01: "the cover call C and the dearest chain of the planner's plan"; 02 §7: "Each cover call gives it after C", the least C of all walks
 unfoldable pub figures : Instance → Figures
-figures I = record { cover = cover I; dearest = dearest I }
+figures I = record { cover = cover I; least = least I; dearest = dearest I }
 
 -- a cover call for a file and the borrowed slices: these hold what the planner leaves (01: "it refuses as the planner does")
 unfoldable pub coverCallBy : (Job → Instance) → List ℕ → List ℕ → List ℕ → List ℕ → Call Covered

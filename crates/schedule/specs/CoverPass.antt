@@ -1,16 +1,19 @@
 -- What the private functions of the cover call promise one another, in terms of the arrays that they are handed.
 -- A reader of the public contracts needs nothing of this file.
+use mathlib.Core.Bool.{Bool, not}
 use mathlib.Core.Logic.{_⊎_}
 use mathlib.Core.Path.{_≡_}
 use mathlib.Core.List.{List}
-use Prim.Native.Nat.{ℕ, zero, suc, _+_, _*_, _≤_, _<_}
+use Prim.Native.Nat.{ℕ, zero, suc, _+_, _*_, _^_, _/_, _%_, _≤_, _<_, max}
+use lib.Count.{trailingZeros}
 use lib.Dec.{ltb, eqb}
+use lib.Dec.{T as Holds}
 use lib.ListN.{length, getD}
 use Rattle.base.specs.Choice.{pick}
 use Rattle.base.specs.Rows.{most}
 use Rattle.etf.specs.Instance.{Instance}
 use Rattle.etf.specs.Topology.{entry}
-use Rattle.etf.specs.Bounds.{mostFinish}
+use Rattle.etf.specs.Bounds.{mostMessageTime, mostFinish, mostChain}
 use Rattle.schedule.specs.InArrays.{InArrays, reordered, instanceIn, Plannable}
 use Rattle.schedule.specs.Call.{startOf, processorOf}
 use Rattle.schedule.specs.Pass.{messageAt, reachAt}
@@ -22,11 +25,35 @@ pub record FirstMost (none n : ℕ) (f : ℕ → ℕ) (r : ℕ) : Type 0 where
   pub at-most : 0 < most n f → f r ≡ most n f
   pub first : 0 < most n f → (i : ℕ) → i < r → f i < most n f
 
+-- ---- a set of processors, as the bits of a number
+
+-- processor P is in it
+unfoldable pub has : ℕ → ℕ → Bool
+has set zero = eqb (set % 2) 1
+has set (suc P) = has (set / 2) P
+
+-- the lowest processor in the set of each task; 32 where it is empty
+unfoldable pub lowestIn : List ℕ → ℕ → ℕ
+lowestIn sets T = trailingZeros 32 (getD sets T 0)
+
+-- a set has those of the first n processors that pass a test
+pub record SetOf (n : ℕ) (p : ℕ → Bool) (set : ℕ) : Type 0 where
+  pub few-bits : set < 2 ^ n
+  pub members : (P : ℕ) → P < n → has set P ≡ p P
+
 -- ---- the latest short tick
 
--- from when on a processor is busy up to `start`: from `start` itself if it is idle right before
+-- from when on a processor is busy up to `start`: from `start` itself if it is idle right before, else since its stretch began, which is no
+-- later
 unfoldable pub busyFrom : List ℕ → List ℕ → ℕ → ℕ → ℕ
-busyFrom until since start P = pick (ltb (getD until P 0) start) start (getD since P 0)
+busyFrom until since start P = max (pick (ltb (getD until P 0) start) start 0) (getD since P 0)
+
+-- `latest` is the greatest of the n values, or 1 where each is 0, and the set is that of the processors that have it
+pub record LatestOf (n : ℕ) (f : ℕ → ℕ) (latest set : ℕ) : Type 0 where
+  pub from-one : 1 ≤ latest
+  pub to-latest : (P : ℕ) → P < n → f P ≤ latest
+  pub those : SetOf n (λ P. eqb (f P) latest) set
+  pub nowhere : set ≡ 0 → latest ≡ 1
 
 module _ (m : ℕ) (durations starts processors : List ℕ) where
   -- a schedule of m tasks on n processors, no two at one time on one
@@ -50,25 +77,24 @@ module _ (m : ℕ) (durations starts processors : List ℕ) where
     pub begun : getD starts task 0 ≤ t
     pub unfinished : t < getD starts task 0 + getD durations task 0
 
-  -- `tick` is the latest before s in which one of n processors is idle, and P is the lowest that is
-  pub record LatestShort (n s P : ℕ) : Type 0 where
-    pub tick : ℕ
-    pub before : tick < s
-    pub below : P < n
-    pub is-idle : Running P tick → ⊥
-    pub lowest : (Q : ℕ) → Q < P → Running Q tick
-    pub latest : (Q t : ℕ) → Q < n → tick < t → t < s → Running Q t
+  -- the latest tick before s in which one of n processors is idle is the one before `latest`, and `idle` is the set of those that are;
+  -- it is empty where no tick before s is short
+  pub record ShortBefore (n s latest idle : ℕ) : Type 0 where
+    pub few-bits : idle < 2 ^ 16
+    pub none-short : idle ≡ 0 → (Q t : ℕ) → Q < n → t < s → Running Q t
+    pub before : 0 < idle → (0 < latest) × (latest ≤ s)
+    pub rests : (Q t : ℕ) → suc t ≡ latest → Holds (has idle Q) → Running Q t → ⊥
+    pub runs : (Q t : ℕ) → Q < n → suc t ≡ latest → t < s → Holds (not (has idle Q)) → Running Q t
+    pub runs-after : (Q t : ℕ) → Q < n → latest ≤ t → t < s → Running Q t
+    pub within : (Q : ℕ) → Holds (has idle Q) → Q < n
 
-  -- P is the lowest of n processors that are idle in the latest short tick before s; 16 where no tick before s is short
-  pub record IdleBefore (n s P : ℕ) : Type 0 where
-    pub to-most : P ≤ 16
-    pub short : P < 16 → LatestShort n s P
-    pub none-short : P ≡ 16 → (Q t : ℕ) → Q < n → t < s → Running Q t
-
-  -- for each task that has predecessors that processor; 16 for a task without
-  pub record Through (n : ℕ) (predecessors through : List ℕ) : Type 0 where
-    pub idle : (T : ℕ) → T < m → 0 < getD predecessors T 0 → IdleBefore n (getD starts T 0) (getD through T 0)
-    pub none : (T : ℕ) → T < m → getD predecessors T 0 ≡ 0 → getD through T 0 ≡ 16
+  -- that of each task that has predecessors, by how many these are; an empty set for a task without
+  pub record ShortTicks (n : ℕ) (predecessors : ℕ → ℕ) (latest idle : List ℕ) : Type 0 where
+    pub has-latest : length latest ≡ 256
+    pub has-idle : length idle ≡ 256
+    pub found : (T : ℕ) → T < m → 0 < predecessors T → ShortBefore n (getD starts T 0) (getD latest T 0) (getD idle T 0)
+    pub none : (T : ℕ) → T < m → predecessors T ≡ 0 → getD idle T 0 ≡ 0
+    pub past : (T : ℕ) → m ≤ T → getD idle T 0 ≡ 0
 
 -- ---- the moves back
 
@@ -88,15 +114,60 @@ module _ (durations from to counts : List ℕ) (costs : List (List ℕ)) (starts
 
 -- the moves back from each of m tasks, through the processors that `through` has
 pub record Moves (m l : ℕ) (durations from to counts : List ℕ) (costs : List (List ℕ))
-    (starts processors through back time : List ℕ) : Type 0 where
-  pub moves : (T : ℕ) → T < m → getD through T 0 < 16
-      → MovesBack durations from to counts costs starts processors l T (getD through T 0) (getD back T 0) (getD time T 0)
-  pub stays : (T : ℕ) → T < m → 16 ≤ getD through T 0 → getD back T 0 ≡ 256
+    (starts processors : List ℕ) (through : ℕ → ℕ) (back time : List ℕ) : Type 0 where
+  pub moves : (T : ℕ) → T < m → through T < 16
+      → MovesBack durations from to counts costs starts processors l T (through T) (getD back T 0) (getD time T 0)
+  pub stays : (T : ℕ) → T < m → 16 ≤ through T → getD back T 0 ≡ 256
 
 -- what k moves back from task T take
 unfoldable pub alongBack : List ℕ → List ℕ → ℕ → ℕ → ℕ
 alongBack back time zero T = 0
 alongBack back time (suc k) T = pick (ltb (getD back T 0) 256) (getD time T 0 + alongBack back time k (getD back T 0)) 0
+
+-- ---- the least walks
+
+-- r is the smallest of `low` and of the values of f where P holds
+pub record SmallestOf {A : Type 0} (P : A → Type 0) (f : A → ℕ) (low r : ℕ) : Type 0 where
+  pub to-low : r ≤ low
+  pub to-each : (a : A) → P a → r ≤ f a
+  pub is-one : (r ≡ low) ⊎ ((a : A) × P a × (r ≡ f a))
+
+-- a processor serves: it is in the set, and messages are there at `latest` or after
+abbrev pub Served : ℕ → ℕ → (ℕ → ℕ) → ℕ → Type 0
+Served idle latest reach P = Holds (has idle P) × (latest ≤ reach P)
+
+-- the messages of edge k to a processor of the set cost no more than `most`, each
+pub record AtMost (durations from counts : List ℕ) (costs : List (List ℕ)) (starts processors : List ℕ) (most set k : ℕ) : Type 0 where
+  pub near : getD counts k 0 * most ≤ mostMessageTime
+  pub to-most : (P : ℕ) → Holds (has set P) → messageAt durations from counts costs starts processors P k ≤ getD counts k 0 * most
+
+-- what the walks from each task take, before an edge was looked at: 0 where no tick before its start is short, else what none passes
+pub record Unwalked (idle sums : List ℕ) : Type 0 where
+  pub has-sums : length sums ≡ 256
+  pub none-short : (T : ℕ) → T < 256 → getD idle T 0 ≡ 0 → getD sums T 0 ≡ 0
+  pub short : (T : ℕ) → T < 256 → 0 < getD idle T 0 → getD sums T 0 ≡ mostChain
+
+-- the least that a walk from each task takes, which goes back along one of the first l edges through a processor that serves
+module _ (durations from to counts : List ℕ) (costs : List (List ℕ)) (starts processors latest idle : List ℕ) where
+  -- a move back from task T: the place of its edge, and its processor
+  pub record Move (l T : ℕ) (move : ℕ × ℕ) : Type 0 where
+    pub below : move .0 < l
+    pub is-into : getD to (move .0) 0 ≡ T
+    pub serves : Served (getD idle T 0) (getD latest T 0) (λ P. reachAt durations from counts costs starts processors P (move .0)) (move .1)
+
+  -- what it takes, and what the walks from the task that it goes to take
+  unfoldable pub byMove : List ℕ → ℕ × ℕ → ℕ
+  byMove sums move = messageAt durations from counts costs starts processors (move .1) (move .0) + getD sums (getD from (move .0) 0) 0
+
+  pub record LeastSums (l : ℕ) (sums : List ℕ) : Type 0 where
+    pub has-sums : length sums ≡ 256
+    pub none-short : (T : ℕ) → T < 256 → getD idle T 0 ≡ 0 → getD sums T 0 ≡ 0
+    pub short : (T : ℕ) → T < 256 → 0 < getD idle T 0 → SmallestOf (Move l T) (byMove sums) mostChain (getD sums T 0)
+
+-- r is the smallest sum of the tasks that finish last
+pub record LeastOfLast (m : ℕ) (finish sums : ℕ → ℕ) (r : ℕ) : Type 0 where
+  pub to-each : (T : ℕ) → T < m → finish T ≡ most m finish → r ≤ sums T
+  pub is-one : 0 < m → (T : ℕ) × (T < m) × (finish T ≡ most m finish) × (r ≡ sums T)
 
 -- ---- the dearest chain
 

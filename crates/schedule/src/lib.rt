@@ -1,7 +1,8 @@
-// The planner, the cover and the checker (document 01; document 02 §4 and §6).
+// The planner, the cover and the checker (document 01; document 02 §4, §6 and §7).
 mod chains;
 mod checker;
 mod delivery;
+mod least;
 mod messages;
 mod planner;
 mod small;
@@ -35,9 +36,10 @@ pub enum Planned {
     Refused(u8),
 }
 
-// What the cover call gives: the cover and the dearest chain of the planner's plan.
+// What the cover call gives: the cover, the least cover and the dearest chain of the planner's plan.
 pub struct Figures {
     pub cover: u32,
+    pub least: u32,
     pub dearest: u32,
 }
 
@@ -302,6 +304,19 @@ fn measure<'a>(
         (now (starts .entry)) (now (processors .entry)) order → r ≡ figures (instanceIn (reordered order
         (byNumber n tasks edges (now (durations .entry)) (now (from .entry)) (now (to .entry)) (now (counts .entry)) costs)))) ⌝ }
 {
+    let mut latest = [0u32; 256];
+    let mut idle = [0u32; 256];
+    walk::short_ticks(
+        n,
+        tasks,
+        edges,
+        durations,
+        to,
+        starts,
+        processors,
+        &mut latest,
+        &mut idle,
+    );
     let cover = walk::cover(
         n,
         tasks,
@@ -313,10 +328,31 @@ fn measure<'a>(
         costs,
         starts,
         processors,
+        &latest,
+        &idle,
     );
     let most = chains::greatest_cost(costs, n);
+    let least = least::least(
+        n,
+        tasks,
+        edges,
+        durations,
+        from,
+        to,
+        counts,
+        costs,
+        most,
+        starts,
+        processors,
+        &latest,
+        &idle,
+    );
     let dearest = chains::dearest(n, tasks, edges, durations, from, to, counts, costs, most);
-    Figures { cover, dearest }
+    Figures {
+        cover,
+        least,
+        dearest,
+    }
 }
 
 // Plans the job of a file, ties in start going by `ties`, and measures the plan.

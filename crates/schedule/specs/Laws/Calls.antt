@@ -20,6 +20,7 @@ use Rattle.etf.specs.Instance.{Instance, tasks}
 use Rattle.etf.specs.Schedule.{scheduleOf, end}
 use Rattle.etf.specs.Cover.{cover}
 use Rattle.etf.specs.Dearest.{dearest}
+use Rattle.etf.specs.Least.{least}
 use Rattle.etf.specs.Checker.{Because, no-processor, too-late, overlaps, too-early}
 use Rattle.etf.specs.Verdict.{number-only}
 use Rattle.etf.specs.Rule.{planned}
@@ -158,10 +159,11 @@ module _ {A : InArrays} (F : Plannable A) where
         go true h = clash (sym (ap (λ (c : Call Laid). c .answer) h))
         go false h = same-end (ap (λ (c : Call Laid). c .answer) h)
 
--- the two numbers that measure a plan
-pub measured : (I : Instance) {C D : ℕ} → C ≡ cover I → D ≡ dearest I → record { cover = C; dearest = D } ≡ figures I
+-- the three numbers that measure a plan
+pub measured : (I : Instance) {C L D : ℕ} → C ≡ cover I → L ≡ least I → D ≡ dearest I
+    → record { cover = C; least = L; dearest = D } ≡ figures I
 unfolding figures
-measured I c d = rw (c, d)
+measured I c l d = rw (c, l, d)
 
 -- the cover call's answer, about the instance that was held in arrays
 pub measured-right : {H I : Instance} {f : Figures} → H ≡ I → f ≡ figures H → Cover f ≡ Cover (figures I)

@@ -1,7 +1,10 @@
+pub mod Sets
 pub mod Stretches
 pub mod ShortTicks
 pub mod MovesByEdge
 pub mod LatestEdge
 pub mod Along
 pub mod CoverFound
+pub mod LeastByEdge
+pub mod LeastFound
 pub mod DearestChain

@@ -1,11 +1,12 @@
 -- The walk of the planner's schedule, read off the arrays: what the moves back from its last task take is the cover.
-use mathlib.Core.Path.{_≡_, refl, ap, _∙_, subst}
+use mathlib.Core.Path.{_≡_, refl, ap, _∙_}
 use mathlib.Core.Logic.{_⊎_, inl, inr}
 use mathlib.Core.Option.{Option, none, some, bind}
 use mathlib.Core.List.{List}
 use Prim.Native.Nat.{ℕ, zero, suc, _+_, _≤_, _<_}
 use native.Mathlib.Omega.{arith}
 use borrow.Author.Tests.{lt-ltb}
+use lib.Count.{trailingZeros, trailing-of-zero}
 use lib.ListN.{length, getD}
 use Rattle.base.specs.Rows.{most}
 use Rattle.base.specs.Slices.{filled}
@@ -20,11 +21,11 @@ use Rattle.etf.specs.Laws.Back.{walk-enough}
 use Rattle.schedule.specs.Call.{startOf, processorOf}
 use Rattle.schedule.specs.InArrays.{InArrays, instanceIn, Plannable}
 use Rattle.graph.specs.Graph.{edgesTo}
-use Rattle.schedule.specs.CoverPass.{FirstMost, Scheduled, IdleBefore, Through, HoldsPlan}
+use Rattle.schedule.specs.CoverPass.{lowestIn, FirstMost, Scheduled, ShortBefore, ShortTicks, HoldsPlan}
 use Rattle.schedule.specs.Pass.{messageAt, Sender}
 use Rattle.schedule.specs.CoverPass.{reachInto, MovesBack, Moves, alongBack}
 use Rattle.schedule.specs.Laws.Held.{held-tasks, well}
-use Rattle.schedule.specs.Laws.Walk.ShortTicks.{no-short, latest-short}
+use Rattle.schedule.specs.Laws.Walk.ShortTicks.{no-short, lowest-small, latest-short, lowest-idle}
 use Rattle.schedule.specs.Laws.Walk.LatestEdge.{no-edge-no-latest, stops-there, goes-along, last-is}
 
 -- slices that were filled with the planner's schedule hold it
@@ -55,9 +56,9 @@ sender {A} F S k P h =
     }
 
 module _ {A : InArrays} (F : Plannable A) {starts processors : List ℕ} (H : HoldsPlan (instanceIn A) (A .tasks) starts processors)
-    {predecessors through back′ time : List ℕ} (counted : (T : ℕ) → T < 256 → getD predecessors T 0 ≡ edgesTo (A .to) (A .edges) T)
-    (R : Through (A .tasks) (A .durations) starts processors (A .processors) predecessors through)
-    (M : Moves 256 (A .edges) (A .durations) (A .from) (A .to) (A .counts) (A .costs) starts processors through back′ time) where
+    {latest sets back′ time : List ℕ}
+    (R : ShortTicks (A .tasks) (A .durations) starts processors (A .processors) (edgesTo (A .to) (A .edges)) latest sets)
+    (M : Moves 256 (A .edges) (A .durations) (A .from) (A .to) (A .counts) (A .costs) starts processors (lowestIn sets) back′ time) where
   abbrev I : Instance
   I = instanceIn A
 
@@ -81,20 +82,21 @@ module _ {A : InArrays} (F : Plannable A) {starts processors : List ℕ} (H : Ho
         → getD time T 0 ≡ messageTimeTo I ps (b .through) (b .edge) → getD time T 0 ≤ mostMessageTime → BackAt T
 
   module _ (T : ℕ) (b : T < m) where
-    -- P is what the arrays give for the start of the task
-    abbrev Given : ℕ → Type 0
-    Given P = IdleBefore m (A .durations) starts processors (A .processors) (getD starts T 0) P
+    -- the task's set is empty: the walk stays, ..
+    empty : getD sets T 0 ≡ 0 → getD back′ T 0 ≡ 256
+    unfolding lowestIn
+    empty e = M .stays T (small T b) (rw (e, trailing-of-zero 32) (omega arith))
 
-    -- the task has no predecessor
-    no-predecessor : getD predecessors T 0 ≡ 0 → BackAt T
+    -- .. as the task has no predecessor, ..
+    no-predecessor : edgesTo (A .to) (A .edges) T ≡ 0 → BackAt T
     unfolding back bind
-    no-predecessor p = stays (go (latestIdleTick I ps (placementOf ps T .start))) (M .stays T (small T b) (omega (arith, R .none T b p)))
+    no-predecessor p = stays (go (latestIdleTick I ps (placementOf ps T .start))) (empty (R .none T b p))
       where
         along : ℕ → Option Back
         along P = bind (latestInto I ps T P) (λ e. some (record { edge = e; through = P }))
 
         none-along : (P : ℕ) → along P ≡ none
-        none-along P = rw (no-edge-no-latest F T P ps (omega (arith, counted T (small T b), p)))
+        none-along P = rw (no-edge-no-latest F T P ps p)
 
         through-any : (o : Option ℕ) → bind o along ≡ none
         through-any none = refl
@@ -104,34 +106,40 @@ module _ {A : InArrays} (F : Plannable A) {starts processors : List ℕ} (H : Ho
         go none = refl
         go (some t) = through-any (lowestIdle I ps t)
 
-    -- it has one, and no tick is short
-    none-short : getD through T 0 ≡ 16 → Given (getD through T 0) → BackAt T
-    unfolding back bind
-    none-short e B = stays (rw (no-short F H T b (subst Given e B))) (M .stays T (small T b) (omega (arith, e)))
+    module _ (B : ShortBefore m (A .durations) starts processors (A .processors) (getD starts T 0) (getD latest T 0) (getD sets T 0)) where
+      -- .. or no tick is short
+      none-short : getD sets T 0 ≡ 0 → BackAt T
+      unfolding back bind
+      none-short e = stays (rw (no-short F H T b B e)) (empty e)
 
-    -- it has one, and a tick is short: the walk goes along an edge, or there is no edge
-    at-short : (P : ℕ) → P < 16 → Given P
-        → MovesBack (A .durations) (A .from) (A .to) (A .counts) (A .costs) starts processors (A .edges) T P
-        (getD back′ T 0) (getD time T 0) → BackAt T
-    unfolding back bind
-    at-short P h B W = go (le-or-lt (most (A .edges) (into-at T P)) 0) (latest-short F H T b P h B)
-      where
-        go : (most (A .edges) (into-at T P) ≤ 0) ⊎ (0 < most (A .edges) (into-at T P))
-            → (t : ℕ) × (latestIdleTick I ps (placementOf ps T .start) ≡ some t) × (lowestIdle I ps t ≡ some P) → BackAt T
-        go (inl z) s =
-            let w : most (A .edges) (into-at T P) ≡ 0 = omega (arith, z) in
-            stays (rw (s .1, s .2, stops-there F H P T w)) (W .stops w)
-        go (inr z) s =
-            let w = goes-along F H P T _ _ W z in
-            goes (record { edge = w .0; through = P }) (rw (s .1, s .2, w .1)) (w .2) (w .3) (w .4) (w .5)
+      -- a tick is short: the walk goes along an edge, or there is no edge
+      at-short : 0 < getD sets T 0 → BackAt T
+      unfolding back bind lowestIn
+      at-short k = go (le-or-lt (most (A .edges) (into-at T P)) 0)
+        where
+          P : ℕ
+          P = trailingZeros 32 (getD sets T 0)
+
+          W : MovesBack (A .durations) (A .from) (A .to) (A .counts) (A .costs) starts processors (A .edges) T P
+              (getD back′ T 0) (getD time T 0)
+          W = M .moves T (small T b) (lowest-small F H T b B k)
+
+          go : (most (A .edges) (into-at T P) ≤ 0) ⊎ (0 < most (A .edges) (into-at T P)) → BackAt T
+          go (inl z) =
+              let w : most (A .edges) (into-at T P) ≡ 0 = omega (arith, z) in
+              stays (rw (latest-short F H T b B k, lowest-idle F H T b B k, stops-there F H P T w)) (W .stops w)
+          go (inr z) =
+              let w = goes-along F H P T _ _ W z in
+              goes (record { edge = w .0; through = P }) (rw (latest-short F H T b B k, lowest-idle F H T b B k, w .1))
+              (w .2) (w .3) (w .4) (w .5)
 
     back-at : BackAt T
-    back-at = go (le-or-lt (getD predecessors T 0) 0) (le-or-lt 16 (getD through T 0))
+    back-at = go (le-or-lt (edgesTo (A .to) (A .edges) T) 0) (le-or-lt (getD sets T 0) 0)
       where
-        go : (getD predecessors T 0 ≤ 0) ⊎ (0 < getD predecessors T 0) → (16 ≤ getD through T 0) ⊎ (getD through T 0 < 16) → BackAt T
+        go : (edgesTo (A .to) (A .edges) T ≤ 0) ⊎ (0 < edgesTo (A .to) (A .edges) T) → (getD sets T 0 ≤ 0) ⊎ (0 < getD sets T 0) → BackAt T
         go (inl p) z = no-predecessor (omega arith)
-        go (inr p) (inl h) = let B = R .idle T b p in none-short (omega (arith, h, B .to-most)) B
-        go (inr p) (inr h) = at-short (getD through T 0) h (R .idle T b p) (M .moves T (small T b) h)
+        go (inr p) (inl h) = none-short (R .found T b p) (omega arith)
+        go (inr p) (inr h) = at-short (R .found T b p) h
 
   -- the moves go down, and none takes long
   pub goes-down : {last : ℕ} → last < m → (T : ℕ) → T ≤ last → getD back′ T 0 < 256

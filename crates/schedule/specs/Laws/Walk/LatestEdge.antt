@@ -101,7 +101,7 @@ module _ {A : InArrays} (F : Plannable A) where
       go (inr u) (inr q) r = omega (arith, u .1, r q (omega (arith, u .0)))
 
   -- no edge goes to a task that has no predecessors
-  no-edge : (T : ℕ) → edgesTo to l T ≡ 0 → (d : Edge) → d ∈ into I T → ⊥
+  pub no-edge : (T : ℕ) → edgesTo to l T ≡ 0 → (d : Edge) → d ∈ into I T → ⊥
   unfolding edgesTo
   no-edge T z d h =
       let w = edge-place F T d h in
@@ -137,11 +137,11 @@ module _ {A : InArrays} (F : Plannable A) where
 
     module _ (P : ℕ) where
       -- as the definition has them
-      message-is : (k : ℕ) → k < l → messageTimeTo I ps P (edge k) ≡ message P k
+      pub message-is : (k : ℕ) → k < l → messageTimeTo I ps P (edge k) ≡ message P k
       unfolding instanceIn messageTimeTo messageTime messageAt edgeHeld processorOf
       message-is k h = rw (H .processors-are (getD from k 0) (source-below k h))
 
-      reach-is : (k : ℕ) → k < l → reach I ps P (edge k) ≡ arrival P k
+      pub reach-is : (k : ℕ) → k < l → reach I ps P (edge k) ≡ arrival P k
       unfolding reachAt edgeHeld
       reach-is k h = omega (arith, message-is k h, finish-is F H (getD from k 0) (source-below k h))
 

@@ -5,13 +5,14 @@ use mathlib.Core.Logic.{_⊎_, inl, inr}
 use mathlib.Core.Bool.{not}
 use mathlib.Core.Option.{Option, none, some}
 use mathlib.Core.List.{List}
-use Prim.Native.Nat.{ℕ, _+_, _≤_, _<_}
+use Prim.Native.Nat.{ℕ, suc, _+_, _-_, _≤_, _<_}
 use native.Mathlib.Omega.{arith}
+use lib.Count.{trailingZeros}
 use lib.Dec.{ltb, nltb→le}
 use lib.Dec.{T as Holds}
 use lib.ListN.{getD}
 use Rattle.base.specs.Lists.{_∈_, upto}
-use Rattle.base.specs.Laws.Tests.{not-both, fails, le-or-lt}
+use Rattle.base.specs.Laws.Tests.{either, not-both, fails, le-or-lt}
 use Rattle.base.specs.Laws.Lists.{any-of, filter-in, upto-in, Best, nothing, found, best-is, by-least}
 use Rattle.job.specs.Limits.{mostDuration}
 use Rattle.etf.specs.Instance.{Instance, tasks, duration}
@@ -28,8 +29,9 @@ use Rattle.etf.specs.Laws.Planned.{apart-pairs, sound-plan, home, on-processor}
 use Rattle.etf.specs.Laws.Times.{finish-most}
 use Rattle.schedule.specs.Call.{startOf, processorOf}
 use Rattle.schedule.specs.InArrays.{InArrays, instanceIn, Plannable}
-use Rattle.schedule.specs.CoverPass.{Scheduled, Running, IdleBefore, HoldsPlan}
+use Rattle.schedule.specs.CoverPass.{has, Scheduled, Running, ShortBefore, HoldsPlan}
 use Rattle.schedule.specs.Laws.Held.{held-tasks, held-few, timed, short-tasks, well, near-processors}
+use Rattle.schedule.specs.Laws.Walk.Sets.{member-below, lowest-in, lowest-first}
 
 -- ---- any schedule
 
@@ -178,27 +180,58 @@ module _ {A : InArrays} (F : Plannable A) {starts processors : List ℕ} (H : Ho
         unfinished = omega (arith, r .1, finish-is (u .task) b, ap (finish I) e);
       }
 
-  module _ (T : ℕ) (h : T < m) where
-    -- P is what the arrays give for the start of task T
-    abbrev Given : ℕ → Type 0
-    Given P = IdleBefore m durations starts processors (A .processors) (getD starts T 0) P
-
+  module _ (T : ℕ) (h : T < m) {latest set : ℕ}
+      (B : ShortBefore m durations starts processors (A .processors) (getD starts T 0) latest set) where
     -- where each processor is busy up to the start, no tick before it is short
-    pub no-short : Given 16 → latestIdleTick I ps (placementOf ps T .start) ≡ none
-    no-short B =
+    pub no-short : set ≡ 0 → latestIdleTick I ps (placementOf ps T .start) ≡ none
+    no-short e =
         none-latest I ps (placementOf ps T .start)
-        (λ Q t q k. running-busy Q t (B .none-short refl Q t (omega (arith, has-processors)) (omega (arith, start-is T h))))
+        (λ Q t q k. running-busy Q t (B .none-short e Q t (omega (arith, has-processors)) (omega (arith, start-is T h))))
 
-    -- else it is the lowest idle in the latest short tick before the start
-    pub latest-short : (P : ℕ) → P < 16 → Given P
-        → (t : ℕ) × (latestIdleTick I ps (placementOf ps T .start) ≡ some t) × (lowestIdle I ps t ≡ some P)
-    latest-short P p B =
-        let S = B .short p in
-        let t = S .tick in
-        let b : P < I .processors = omega (arith, S .below, has-processors) in
-        let i : Holds (not (busy I ps P t)) = fails (busy I ps P t) (λ k. S .is-idle (busy-running P t k)) in (
-          t,
-          latest-at I ps (placementOf ps T .start) t (omega (arith, S .before, start-is T h)) (short-by I ps P t b i)
-              (λ Q r q k n. running-busy Q r (S .latest Q r (omega (arith, has-processors)) k (omega (arith, start-is T h)))),
-          lowest-at I ps t P b i (λ Q q. running-busy Q t (S .lowest Q q)),
-        )
+    -- else the latest short one is right before `latest`, ..
+    module _ (there : 0 < set) where
+      abbrev tick : ℕ
+      tick = latest - 1
+
+      tick-there : (suc tick ≡ latest) × (tick < getD starts T 0)
+      tick-there = (omega (arith, B .before there), omega (arith, B .before there))
+
+      -- .. and the processors idle in it are those of the set
+      pub set-idle : (P : ℕ) → Holds (has set P) → (P < I .processors) × Holds (not (busy I ps P tick))
+      set-idle P k = (
+        omega (arith, B .within P k, has-processors),
+        fails (busy I ps P tick) (λ b. B .rests P tick (tick-there .0) k (busy-running P tick b)),
+      )
+
+      pub idle-set : (P : ℕ) → P < I .processors → Holds (not (busy I ps P tick)) → Holds (has set P)
+      idle-set P p k = go (either (has set P))
+        where
+          go : Holds (has set P) ⊎ Holds (not (has set P)) → Holds (has set P)
+          go (inl y) = y
+          go (inr n) =
+              absurd (not-both (busy I ps P tick) k
+              (running-busy P tick (B .runs P tick (omega (arith, has-processors)) (tick-there .0) (tick-there .1) n)))
+
+      -- the lowest of the set
+      lowest : Holds (has set (trailingZeros 32 set))
+      lowest = lowest-in 32 set there (omega (arith, B .few-bits))
+
+      pub lowest-small : trailingZeros 32 set < 16
+      lowest-small = member-below 16 set (trailingZeros 32 set) (B .few-bits) lowest
+
+      pub latest-short : latestIdleTick I ps (placementOf ps T .start) ≡ some tick
+      latest-short =
+          let i = set-idle (trailingZeros 32 set) lowest in
+          latest-at I ps (placementOf ps T .start) tick (omega (arith, tick-there .1, start-is T h))
+          (short-by I ps (trailingZeros 32 set) tick (i .0) (i .1))
+          (λ Q r q k n.
+          running-busy Q r
+          (B .runs-after Q r (omega (arith, has-processors)) (omega (arith, tick-there .0)) (omega (arith, start-is T h))))
+
+      pub lowest-idle : lowestIdle I ps tick ≡ some (trailingZeros 32 set)
+      lowest-idle =
+          let i = set-idle (trailingZeros 32 set) lowest in
+          lowest-at I ps tick (trailingZeros 32 set) (i .0) (i .1)
+          (λ Q q. running-busy Q tick
+          (B .runs Q tick (omega (arith, i .0, has-processors)) (tick-there .0) (tick-there .1)
+          (fails (has set Q) (lowest-first 32 set Q q))))
