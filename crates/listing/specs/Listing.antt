@@ -11,6 +11,7 @@ use Rattle.job.specs.Read.{Answer, accepted, refused, readJob}
 use Rattle.etf.specs.Instance.{tasks, duration}
 use Rattle.etf.specs.Cover.{cover}
 use Rattle.etf.specs.Dearest.{dearest}
+use Rattle.etf.specs.Least.{least}
 use Rattle.etf.specs.OfJob.{instance}
 use Rattle.schedule.specs.Call.{startOf, processorOf}
 use Rattle.schedule.specs.Plan.{endOf}
@@ -44,16 +45,16 @@ taskLine T P start finish = field T space ++ (field P space ++ (field start spac
 unfoldable pub taskLines : ℕ → (ℕ → ℕ) → (ℕ → ℕ) → (ℕ → ℕ) → List ℕ
 taskLines m processor start time = flatMap (λ T. taskLine T (processor T) (start T) (start T + time T)) (upto m)
 
--- 01: "Then come the plan's end, C and the dearest chain"
-unfoldable pub figures : ℕ → ℕ → ℕ → List ℕ
-figures E C D = line (text "end ") E ++ (line (text "cover ") C ++ line (text "dearest ") D)
+-- 01: "Then come the plan's end, C and the dearest chain"; 02 §7: "the printed line `least` follows `cover`", the least C over all walks
+unfoldable pub figures : ℕ → ℕ → ℕ → ℕ → List ℕ
+figures E C L D = line (text "end ") E ++ (line (text "cover ") C ++ (line (text "least ") L ++ line (text "dearest ") D))
 
 -- the listing of a job's plan
 unfoldable pub planListing : Job → List ℕ
 planListing j =
     header (instance j .processors) (tasks (instance j)) (length (instance j .edges))
     ++ (taskLines (tasks (instance j)) (processorOf (instance j)) (startOf (instance j)) (duration (instance j))
-    ++ figures (endOf j) (cover (instance j)) (dearest (instance j)))
+    ++ figures (endOf j) (cover (instance j)) (least (instance j)) (dearest (instance j)))
 
 -- 01: "A refusal prints one line, `refused`, a space and its number, nothing else"
 unfoldable pub refusalLine : ℕ → List ℕ

@@ -14,4 +14,4 @@ endIn (NotPlanned k) = 0
 -- the figures that the cover call reports; zeros on a refusal
 abbrev pub figuresIn : Covered → Figures
 figuresIn (Cover f) = f
-figuresIn (NotCovered k) = record { cover = 0; dearest = 0 }
+figuresIn (NotCovered k) = record { cover = 0; least = 0; dearest = 0 }

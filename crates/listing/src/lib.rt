@@ -31,6 +31,7 @@ fn figures_in(covered: Covered) -> Figures
         Covered::Cover(reported) => reported,
         Covered::Refused(_) => Figures {
             cover: 0,
+            least: 0,
             dearest: 0,
         },
     }
@@ -94,15 +95,17 @@ fn lines<'a>(
     place
 }
 
-// The last three lines.
+// The last four lines.
 fn figures(out: &mut [u8], at: usize, end: u32, reported: Figures) -> usize
-    requires { ⌜ at + 51 ≤ length (now out) ⌝ }
-    ensures { λ r. ⌜ Put (now (out .entry)) (now (out .exit)) at r (figuresOf end (reported .cover) (reported .dearest)) ⌝ }
-    ensures { λ r. ⌜ r ≤ at + 51 ⌝ }
+    requires { ⌜ at + 68 ≤ length (now out) ⌝ }
+    ensures { λ r. ⌜ Put (now (out .entry)) (now (out .exit)) at r
+        (figuresOf end (reported .cover) (reported .least) (reported .dearest)) ⌝ }
+    ensures { λ r. ⌜ r ≤ at + 68 ⌝ }
 {
     let second = put::line(out, at, b"end ", end);
     let third = put::line(out, second, b"cover ", reported.cover);
-    put::line(out, third, b"dearest ", reported.dearest)
+    let fourth = put::line(out, third, b"least ", reported.least);
+    put::line(out, fourth, b"dearest ", reported.dearest)
 }
 
 // Writes the line of a refusal to the front of `out`, and answers its length (01: "A refusal prints one line").

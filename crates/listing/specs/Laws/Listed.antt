@@ -49,9 +49,9 @@ unfolding taskLines
 lines-same {m} {m′} p p′ s s′ d d′ e a b c =
     rw e (flatMap-same _ _ (upto m′) (λ T h. rw (a T (upto-of m′ T h), b T (upto-of m′ T h), c T (upto-of m′ T h))))
 
-pub listing-same : {E E′ C C′ D D′ : ℕ} {a a′ b b′ : List ℕ} → a ≡ a′ → b ≡ b′ → E ≡ E′ → C ≡ C′ → D ≡ D′
-    → a ++ (b ++ figures E C D) ≡ a′ ++ (b′ ++ figures E′ C′ D′)
-listing-same p q x y z = rw (p, q, x, y, z)
+pub listing-same : {E E′ : ℕ} {f f′ : Figures} {a a′ b b′ : List ℕ} → a ≡ a′ → b ≡ b′ → E ≡ E′ → f ≡ f′
+    → a ++ (b ++ figures E (f .cover) (f .least) (f .dearest)) ≡ a′ ++ (b′ ++ figures E′ (f′ .cover) (f′ .least) (f′ .dearest))
+listing-same p q x y = rw (p, q, x, y)
 
 -- ---- a text at the front of the buffer
 
@@ -172,12 +172,10 @@ module _ (file : List ℕ) {x : Reading} {m l : ℕ} (e : x ≡ readingOf (readJ
     pub plan-listed : {out o₁ o₂ o₃ : List ℕ} {i j k : ℕ} (E : ℕ) (f : Figures)
         → Put out o₁ 0 i (header (x .platform .processors) m l)
         → Put o₁ o₂ i j (taskLines m (λ T. getD p T 0) (λ T. getD s T 0) (λ T. getD (x .arrays .durations) T 0))
-        → Put o₂ o₃ j k (figures E (f .cover) (f .dearest))
+        → Put o₂ o₃ j k (figures E (f .cover) (f .least) (f .dearest))
         → E ≡ endIn q → f ≡ figuresIn c → k ≤ length out → listed k o₃ ≡ listingCall file out
     unfolding listingCall listing listingFor planListing figuresOf
     plan-listed {out = out} E f first second third e-is f-is fits =
-        let right : f ≡ figuresOf I = f-is ∙ figures-are in
         put-front (put-then first (put-then second third)) fits
         ∙ ap (λ (s : List ℕ). putFirst s out)
-        (listing-same header-is lines-are (e-is ∙ end-is) (ap (λ (g : Figures). g .cover) right) (ap (λ (g : Figures). g .dearest) right)
-        ∙ ap listingFor (sym says))
+        (listing-same header-is lines-are (e-is ∙ end-is) (f-is ∙ figures-are) ∙ ap listingFor (sym says))
