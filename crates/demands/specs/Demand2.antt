@@ -20,10 +20,12 @@ use Rattle.job.specs.RoundTrip.{written-read, read-held, read-written}
 use Rattle.etf.specs.Instance.{Instance, tasks, duration, outOf}
 use Rattle.etf.specs.Schedule.{Placement, placementOf, scheduleOf, end}
 use Rattle.etf.specs.Rule.{choice, planned}
-use Rattle.etf.specs.Cover.{cover}
+use Rattle.etf.specs.Cover.{Walk, FinishesLast, cover}
 use Rattle.etf.specs.Dearest.{Chain, price, dearest}
 use Rattle.etf.specs.Checker.{Keeps}
-use Rattle.etf.specs.Walks.{CoverWalk}
+use Rattle.etf.specs.Walks.{CoverWalk, cover-walk}
+use Rattle.etf.specs.WorstCase.{walk-within}
+use Rattle.etf.specs.LeastWalks.{one-has, none-less, at-most-cover}
 use Rattle.etf.specs.Weight.{weight}
 use Rattle.etf.specs.OfJob.{instance, instanceByWeight, TieRule, resultOf}
 use Rattle.etf.specs.Priority.{HeavierFirst, ChoiceIs}
@@ -220,6 +222,47 @@ pub weight-cover-leaves-plan : (file starts processors scratch : List ℕ)
     × (weightCoverCall file starts processors scratch .scratch ≡ weightCall file starts processors scratch .scratch)
 weight-cover-leaves-plan = leaves-plan instanceByWeight
 
+-- ---- 02 §7: "Sales wants the least C over all such walks, each begun with any step that finishes last. Each cover call gives it after C,
+-- and the printed line `least` follows `cover`"
+
+-- L, beside C and D, of a file's plan by the tie rule of `by`; the walks are those that §7 allows (`Walk` in crate etf's Cover)
+pub record TheLeast (by : Job → Instance) (file : List ℕ) (L C D : ℕ) : Type 0 where
+  pub job : Job
+  pub of-file : readJob file ≡ accepted job
+  -- "No walk of that kind has a smaller sum, one has this sum"
+  pub none-smaller : (T C′ : ℕ) → FinishesLast (by job) (planned (by job)) T → Walk (by job) (planned (by job)) T C′ → L ≤ C′
+  pub one-has : (T : ℕ) × FinishesLast (by job) (planned (by job)) T × Walk (by job) (planned (by job)) T L
+  -- so it is at most C, which is at most the dearest chain
+  pub at-most-cover : L ≤ C
+  pub cover-at-most-dearest : C ≤ D
+
+pub least-by-the-walks : {by : Job → Instance} → TieRule by → (file starts processors scratch : List ℕ) (f : Figures)
+    → coverCallBy by file starts processors scratch .answer ≡ Cover f → TheLeast by file (f .least) (f .cover) (f .dearest)
+unfolding figuresOf
+least-by-the-walks {by} rule file starts processors scratch f h =
+    let Q = covered-as by file starts processors scratch f h in
+    let I = by (Q .job) in
+    let W = well-formed rule (Q .job) (accepted-job file (Q .job) (Q .says)) in
+    let c = cover-walk I W in
+    rw (figures-is by file starts processors scratch Q)
+    (record {
+      job = Q .job;
+      of-file = Q .says;
+      none-smaller = none-less I W;
+      one-has = one-has I W;
+      at-most-cover = at-most-cover I W;
+      cover-at-most-dearest = walk-within I W (c .task) (cover I) (c .finishes-last .below) (c .walked);
+    })
+
+pub least-of-walks : (file starts processors scratch : List ℕ) (f : Figures) → coverCall file starts processors scratch .answer ≡ Cover f
+    → TheLeast instance file (f .least) (f .cover) (f .dearest)
+least-of-walks = least-by-the-walks by-number
+
+-- and of the plan with the tasks by weight
+pub weight-least-of-walks : (file starts processors scratch : List ℕ) (f : Figures)
+    → weightCoverCall file starts processors scratch .answer ≡ Cover f → TheLeast instanceByWeight file (f .least) (f .cover) (f .dearest)
+weight-least-of-walks = least-by-the-walks by-weight
+
 -- what the program prints for the file is what the two calls, with any slices, leave and report
 pub printed-as-called : (file starts processors scratch : List ℕ) (o : Outcome) → planCall file starts processors scratch .answer ≡ Plan o
     → (starts₂ processors₂ scratch₂ : List ℕ) (f : Figures) → coverCall file starts₂ processors₂ scratch₂ .answer ≡ Cover f
@@ -227,7 +270,7 @@ pub printed-as-called : (file starts processors scratch : List ℕ) (o : Outcome
     × (listing file ≡ header (j .platform .processors) (o .tasks) (length (j .edges))
     ++ (taskLines (o .tasks) (λ T. getD (planCall file starts processors scratch .processors) T 0)
     (λ T. getD (planCall file starts processors scratch .starts) T 0) (λ T. getD (j .tasks) T 0)
-    ++ figures (o .end) (f .cover) (f .dearest)))
+    ++ figures (o .end) (f .cover) (f .least) (f .dearest)))
 printed-as-called = prints-calls
 
 -- ---- 00: "A plan brought in by anybody for an accepted job is accepted if it keeps the rules of the graph, the boards and the links and

@@ -84,7 +84,7 @@ pub leaves-plan : (by : Job → Instance) (file starts processors scratch : List
 unfolding coverCallBy planCallBy
 leaves-plan by = same-slices by NotCovered (coverAnswer by) NotPlanned (planAnswer by)
 
--- ---- the cover call's two numbers
+-- ---- C and the dearest chain, as the cover call reports them
 
 -- the walk that adds up to C, and what makes D the job's dearest chain, whatever the tie rule
 pub record Measured (by : Job → Instance) (j : Job) (D : ℕ) : Type 0 where

@@ -48,7 +48,7 @@ module _ (file starts processors scratch : List ℕ) (o : Outcome) (p : planCall
   pub prints-calls : (starts₂ processors₂ scratch₂ : List ℕ) (f : Figures) → coverCall file starts₂ processors₂ scratch₂ .answer ≡ Cover f
       → (j : Job) × (readJob file ≡ accepted j)
       × (listing file ≡ header (j .platform .processors) (o .tasks) (length (j .edges))
-      ++ (taskLines (o .tasks) processor start (λ T. getD (j .tasks) T 0) ++ figures (o .end) (f .cover) (f .dearest)))
+      ++ (taskLines (o .tasks) processor start (λ T. getD (j .tasks) T 0) ++ figures (o .end) (f .cover) (f .least) (f .dearest)))
   unfolding listing listingFor planListing instance duration startOf processorOf outcomeBy figuresOf
   prints-calls starts₂ processors₂ scratch₂ f c =
       let P = planned-as instance file starts processors scratch o p in
@@ -67,6 +67,5 @@ module _ (file starts processors scratch : List ℕ) (o : Outcome) (p : planCall
         j,
         P .says,
         ap listingFor (P .says)
-            ∙ sym (listing-same first lines (ap (λ (x : Outcome). x .end) planned-so) (ap (λ (x : Figures). x .cover) (covered-so ∙ same))
-            (ap (λ (x : Figures). x .dearest) (covered-so ∙ same))),
+            ∙ sym (listing-same first lines (ap (λ (x : Outcome). x .end) planned-so) (covered-so ∙ same)),
       )
