@@ -4,6 +4,7 @@
 # make check         proves what has changed, and runs the programs
 # make bench         times reader, writer, square, planners, checker, cover calls and page against plain Rust, and measures the stack
 # make ends          tells how the ends of plans by weight stand to those by number; make bench does too
+# make leasts        tells how least covers stand to covers, and what that does to the sales sheet; make bench does too
 # make host          runs the C host over the static library, and the README's example
 # make differential  holds library and program to the reference planner on random jobs and plans: SEED=.. JOBS=..
 # make examples      holds the examples and the tools for them to the reference planner
@@ -11,7 +12,7 @@
 # make definitions   holds the definitions of crate etf, and the page, to the reference planner on random jobs: SEED=.. JOBS=..
 # make clean         removes what was made
 
-.PHONY: run page test check bench ends bench-built host differential examples vectors definitions clean
+.PHONY: run page test check bench ends leasts bench-built host differential examples vectors definitions clean
 .PHONY: job-named has-rt has-python3 has-cc has-objcopy has-rustc
 
 libraries = target/staticlib/libkelvrist.a target/staticlib/libtiming.a
@@ -37,8 +38,8 @@ check: has-rt
 bench: bench-built
 	@target/bench crates/vectors
 
-ends: bench-built
-	@target/bench crates/vectors ends
+ends leasts: bench-built
+	@target/bench crates/vectors $@
 
 # No time hangs on where the linker puts a function: plain Rust's begin at a line of the cache, ours are timed at each start in one.
 bench-built: has-rt has-cc has-objcopy has-rustc has-python3 $(libraries:target/staticlib/%=target/placed/%)

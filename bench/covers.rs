@@ -9,10 +9,13 @@ use crate::{cover, proved, stack, timing};
 /// Places of the scratch.
 const ARRIVALS: usize = 16 * TASKS;
 
-/// Places of the slices for any job: starts, processors, scratch and output.
-const ROOMS: [usize; 4] = [TASKS, TASKS, ARRIVALS, 2];
+/// The numbers that a cover call puts out: the cover, the least cover and the dearest chain.
+const FIGURES: usize = 3;
 
-type Cover = fn(&[u8], &mut [u32], &mut [u8], &mut [u32], &mut [u32]) -> u32;
+/// Places of the slices for any job: starts, processors, scratch and output.
+const ROOMS: [usize; 4] = [TASKS, TASKS, ARRIVALS, FIGURES];
+
+pub type Cover = fn(&[u8], &mut [u32], &mut [u8], &mut [u32], &mut [u32]) -> u32;
 
 /// A cover call: what its lines begin with, ours as it is exported and called, and the plain Rust one.
 struct Calls {
@@ -70,16 +73,24 @@ impl Lent {
     }
 }
 
+/// What a cover call tells of a good job: the cover, the least cover and the dearest chain; and the processors of its plan.
+pub fn told(cover: Cover, file: &[u8]) -> ([u32; FIGURES], Vec<u8>) {
+    let mut lent = Lent::new(ROOMS);
+    assert_eq!(lent.to(cover, file), 0, "the job is good");
+    let figures = lent.out.try_into().expect("it has these places");
+    (figures, lent.processors)
+}
+
 /// The same number and slices from both, for slices that are long enough and, each in turn, too short.
 fn hold_covers(calls: &Calls, file: &[u8], tasks: usize, tally: &mut Tally) {
     for rooms in [
-        [tasks, tasks, ARRIVALS, 2],
-        [tasks + 3, tasks + 2, ARRIVALS + 5, 2],
-        [tasks - 1, tasks, ARRIVALS, 2],
-        [tasks, tasks - 1, ARRIVALS, 2],
-        [tasks, tasks, ARRIVALS - 1, 2],
-        [tasks, tasks, ARRIVALS, 1],
-        [tasks, tasks, ARRIVALS, 3],
+        [tasks, tasks, ARRIVALS, FIGURES],
+        [tasks + 3, tasks + 2, ARRIVALS + 5, FIGURES],
+        [tasks - 1, tasks, ARRIVALS, FIGURES],
+        [tasks, tasks - 1, ARRIVALS, FIGURES],
+        [tasks, tasks, ARRIVALS - 1, FIGURES],
+        [tasks, tasks, ARRIVALS, FIGURES - 1],
+        [tasks, tasks, ARRIVALS, FIGURES + 1],
         [0, 0, 0, 0],
     ] {
         let (mut ours, mut rust) = (Lent::new(rooms), Lent::new(rooms));

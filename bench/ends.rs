@@ -8,7 +8,7 @@ const WIDE_JOBS: usize = 300;
 
 /// A wide job: branches side by side, whose tasks stand mixed, as they were drawn for one branch or another; the lower a branch, the
 /// fewer tasks it gets. Half of the jobs end with a task that waits for all branches.
-fn wide_job(dice: &mut Dice) -> Vec<u8> {
+pub fn wide_job(dice: &mut Dice) -> Vec<u8> {
     let tasks = 20 + dice.below(TASKS - 19);
     let processors = 2 + dice.below(15);
     let branches = processors + dice.below(3 * processors);

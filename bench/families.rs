@@ -1,4 +1,4 @@
-//! The jobs that planners, checker, cover calls and page are timed on, in families: 256 tasks on 16 processors.
+//! The jobs that planners, checker, cover calls and page are timed on, in families: 256 tasks, or 46 in `linked`, on 16 processors.
 use std::collections::BTreeSet;
 
 use crate::dice::Dice;
@@ -218,11 +218,11 @@ fn one_free() -> Vec<u8> {
     .file()
 }
 
-/// The job for which the cover call takes longest beside the planner's call that is known.
+/// The job for which the cover call takes longest beside the planner's call, among those without edges, that is known.
 ///
-/// Equal tasks without edges: a task starts at the clock on the first free processor, so the planner looks at one pair to place
-/// it, and the cover still looks at 16 processors for each task. It is not a job whose starts fall as task numbers rise, though
-/// the sort moves most there: to place a task the planner looks at every lower one that is not placed, and those are the moves.
+/// Equal tasks: each starts at the clock on the first free processor, so the planner looks at one pair to place it, and what the
+/// cover does for every task counts most. It is not a job whose starts fall as task numbers rise, though the sort moves most there:
+/// to place a task the planner looks at every lower one that is not placed, and those are the moves.
 fn even() -> Vec<u8> {
     Job {
         platform: [16, 0, 0],
@@ -249,6 +249,24 @@ fn rising() -> Vec<u8> {
     .file()
 }
 
+/// The job for which the cover call takes longest beside the planner's call that is known.
+///
+/// As many edges as a job can have, among as few tasks as can have them. These run one after the other on one processor, as a message
+/// to another takes time: so the planner looks at one pair to place a task, and for each edge the least cover looks at the 15
+/// processors that are idle, one by one, where the planner raised 16 arrivals, several at once.
+fn linked() -> Vec<u8> {
+    let tasks = 46;
+    let edges = (1..tasks).flat_map(|by| (by..tasks).map(move |to| (to - by, to, 1)));
+    Job {
+        platform: [16, 1, 5],
+        wires: Vec::new(),
+        durations: vec![1000; tasks],
+        edges: edges.take(1024).collect(),
+        results: Vec::new(),
+    }
+    .file()
+}
+
 fn dense(dice: &mut Dice) -> Shape {
     some_edges(dice, TASKS, 1024)
 }
@@ -259,7 +277,7 @@ fn from_five(_: &mut Dice) -> Shape {
     all.take(1024).collect()
 }
 
-pub fn families() -> [Family; 15] {
+pub fn families() -> [Family; 16] {
     [
         family("chain", chain),
         family("fork-join", fork_join),
@@ -278,6 +296,10 @@ pub fn families() -> [Family; 15] {
         Family {
             name: "rising",
             files: vec![rising()],
+        },
+        Family {
+            name: "linked",
+            files: vec![linked()],
         },
         Family {
             name: "worst",

@@ -2,7 +2,8 @@
 //! calls and the page against plain Rust ones, in one run, and prints the ratios; then the cover call, the small planner and the planner
 //! by weight against our planner. First it holds each against the other on the files of the cases of crate `vectors`, whose folder is
 //! the first argument, and more; the squares on all platforms. Then it prints how much stack planners, checker, cover calls and page
-//! take, and last how the ends by weight stand to those by number: that alone where the second argument is `ends`.
+//! take, and last how the ends by weight stand to those by number, and least covers to covers: one of the two alone where the second
+//! argument is `ends` or `leasts`.
 mod cases;
 mod checker;
 mod cover;
@@ -11,6 +12,7 @@ mod dice;
 mod ends;
 mod families;
 mod job;
+mod leasts;
 mod page;
 mod pages;
 mod planner;
@@ -33,8 +35,10 @@ fn main() {
         std::fs::read_to_string(format!("{folder}/stdout")).expect("their lines can be read");
     let files = cases::files(&cases);
     let families = families::families();
-    if std::env::args().nth(2).as_deref() == Some("ends") {
-        return ends::print(&families);
+    match std::env::args().nth(2).as_deref() {
+        Some("ends") => return ends::print(&families),
+        Some("leasts") => return leasts::print(&families),
+        _ => (),
     }
     cases::hold(&cases, &lines);
     reader::hold(&files);
@@ -66,4 +70,5 @@ fn main() {
     covers::measure_stack(&families);
     pages::measure_stack(&families);
     ends::print(&families);
+    leasts::print(&families);
 }

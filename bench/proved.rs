@@ -152,7 +152,7 @@ fn with_output(
     }
 }
 
-/// Plans a job into the slices, and puts the cover and the dearest chain into `out`.
+/// Plans a job into the slices, and puts the cover, the least cover and the dearest chain into `out`.
 pub fn cover(
     file: &[u8],
     starts: &mut [u32],

@@ -90,9 +90,9 @@ abbrev pub refusalIn : Covered → ℕ
 refusalIn (Cover f) = 0
 refusalIn (NotCovered k) = k
 
--- the two numbers of an accepted cover call at the front of the output, or what it held
+-- the three numbers of an accepted cover call at the front of the output, or what it held
 abbrev pub numbersIn : Covered → List ℕ → List ℕ
-numbersIn (Cover f) out = f .cover ∷ f .dearest ∷ drop 2 out
+numbersIn (Cover f) out = f .cover ∷ f .least ∷ f .dearest ∷ drop 3 out
 numbersIn (NotCovered k) out = out
 
 -- what a call returns, and the last content of the starts, the processors, the scratch and the output
@@ -119,7 +119,7 @@ orNine (refused k) = k
 -- a cover call, with an output; 01: "Then 8, then 9 for any slice lent to the call": the output, too, may be too short
 unfoldable pub coverTimed : (List ℕ → List ℕ → List ℕ → List ℕ → Call Covered) → List ℕ → List ℕ → List ℕ → List ℕ → List ℕ → CoverReturned
 coverTimed call file starts processors scratch out =
-    pick (ltb (length out) 2) (coverReturned (orNine (readJob file)) starts processors scratch out)
+    pick (ltb (length out) 3) (coverReturned (orNine (readJob file)) starts processors scratch out)
     (withOutput (call file starts processors scratch) out)
 
 -- 0 for a page that was drawn, or the refusal's number

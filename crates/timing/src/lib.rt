@@ -159,21 +159,22 @@ fn cover_refusal(covered: Covered) -> u32
     }
 }
 
-// Puts the cover and the dearest chain into the first two places of `out`: 0, or the number of a refused cover call.
+// Puts the cover, the least cover and the dearest chain into the first three places of `out`: 0, or the number of a refused cover call.
 fn put_figures(covered: Covered, out: &mut [u32]) -> u32
-    requires { ⌜ 2 ≤ length (now out) ⌝ }
+    requires { ⌜ 3 ≤ length (now out) ⌝ }
     ensures { λ r. ⌜ (r ≡ refusalIn covered) × (now (out .exit) ≡ numbersIn covered (now (out .entry))) ⌝ }
 {
     let Covered::Cover(figures) = covered else {
         return cover_refusal(covered);
     };
     out[0] = figures.cover;
-    out[1] = figures.dearest;
+    out[1] = figures.least;
+    out[2] = figures.dearest;
     0
 }
 
-// The cover call: 0 with the cover and the dearest chain in the first two places of `out`, or the refusal's number; `out` is one of the
-// slices that can be too short (9).
+// The cover call: 0 with the cover, the least cover and the dearest chain in the first three places of `out`, or the refusal's number;
+// `out` is one of the slices that can be too short (9).
 #[no_mangle]
 pub extern "C" fn timing_cover(
     file: &[u8],
@@ -185,7 +186,7 @@ pub extern "C" fn timing_cover(
     ensures { λ r. ⌜ coverReturned r (now (starts .exit)) (now (processors .exit)) (now (scratch .exit)) (now (out .exit)) ≡ coverTimed
         coverCall (now (file .entry)) (now (starts .entry)) (now (processors .entry)) (now (scratch .entry)) (now (out .entry)) ⌝ }
 {
-    if out.len() < 2 {
+    if out.len() < 3 {
         return or_nine(file);
     }
     let covered = schedule::cover(file, starts, processors, scratch);
@@ -204,7 +205,7 @@ pub extern "C" fn timing_cover_by_weight(
     ensures { λ r. ⌜ coverReturned r (now (starts .exit)) (now (processors .exit)) (now (scratch .exit)) (now (out .exit)) ≡ coverTimed
         weightCoverCall (now (file .entry)) (now (starts .entry)) (now (processors .entry)) (now (scratch .entry)) (now (out .entry)) ⌝ }
 {
-    if out.len() < 2 {
+    if out.len() < 3 {
         return or_nine(file);
     }
     let covered = schedule::cover_by_weight(file, starts, processors, scratch);

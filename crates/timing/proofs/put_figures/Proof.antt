@@ -1,10 +1,10 @@
--- `timing::put_figures` stores the two numbers of an accepted cover call at the front of the output, and else tells its number.
+-- `timing::put_figures` stores the three numbers of an accepted cover call at the front of the output, and else tells its number.
 use mathlib.Core.Path.{_≡_, refl, ap, sym, _∙_}
 use mathlib.Core.List.{List, [], _∷_}
 use Prim.Native.Nat.{ℕ, _≤_}
 use native.Mathlib.Omega.{arith}
 use borrow.Author.Needs.{needs}
-use lib.ListN.{length, set, drop}
+use lib.ListN.{length, set, drop, length-set}
 use Rattle.schedule.specs.declared.Figures.{Figures}
 use Rattle.schedule.specs.declared.Covered.{Covered}
 use Rattle.schedule.specs.declared.Covered.the-variants.{Cover}
@@ -12,14 +12,17 @@ use Rattle.timing.specs.Timing.{refusalIn, numbersIn}
 use Rattle.timing.proofs.put_figures.Statement.{statement}
 use Rattle.timing.proofs.put_figures.Tie as tie
 
-two-places : (l : List ℕ) (x y : ℕ) → 2 ≤ length l → set (set l 0 x) 1 y ≡ x ∷ y ∷ drop 2 l
-two-places [] x y e = absurd (omega (arith, e))
-two-places (a ∷ []) x y e = absurd (omega (arith, e))
-two-places (a ∷ b ∷ l) x y e = refl
+three-places : (l : List ℕ) (x y z : ℕ) → 3 ≤ length l → set (set (set l 0 x) 1 y) 2 z ≡ x ∷ y ∷ z ∷ drop 3 l
+three-places [] x y z e = absurd (omega (arith, e))
+three-places (a ∷ []) x y z e = absurd (omega (arith, e))
+three-places (a ∷ b ∷ []) x y z e = absurd (omega (arith, e))
+three-places (a ∷ b ∷ c ∷ l) x y z e = refl
 
-put : (out : List ℕ) {r : Covered} (f : Figures) → 2 ≤ length out → r ≡ Cover f
-    → (0 ≡ refusalIn r) × (set (set out 0 (f .cover)) 1 (f .dearest) ≡ numbersIn r out)
-put out f two h = (ap refusalIn (sym h), two-places out (f .cover) (f .dearest) two ∙ ap (λ (q : Covered). numbersIn q out) (sym h))
+put : (out : List ℕ) {r : Covered} (f : Figures) → 3 ≤ length out → r ≡ Cover f
+    → (0 ≡ refusalIn r) × (set (set (set out 0 (f .cover)) 1 (f .least)) 2 (f .dearest) ≡ numbersIn r out)
+put out f three h =
+    let stored = three-places out (f .cover) (f .least) (f .dearest) three in
+    (ap refusalIn (sym h), stored ∙ ap (λ (q : Covered). numbersIn q out) (sym h))
 
 enum-known-covered : tie.Need-enum-known-covered
 enum-known-covered c = search needs
@@ -37,7 +40,10 @@ slice-write-out : tie.Need-slice-write-out
 slice-write-out c = search needs
 
 slice-write-out-2 : tie.Need-slice-write-out-2
-slice-write-out-2 c = search needs
+slice-write-out-2 c = simp length-set (search needs)
+
+slice-write-out-3 : tie.Need-slice-write-out-3
+slice-write-out-3 c = search needs
 
 same-length : tie.Need-same-length
 same-length c = search needs
@@ -55,5 +61,6 @@ put-figures-spec =
     returns
     slice-write-out
     slice-write-out-2
+    slice-write-out-3
     same-length
     returns-2)

@@ -1,5 +1,5 @@
--- `timing::timing_cover` returns the reader's number or 9 for an output without two places, and else what the cover call answers and
--- leaves, its two numbers stored in the output.
+-- `timing::timing_cover` returns the reader's number or 9 for an output without three places, and else what the cover call answers and
+-- leaves, its three numbers stored in the output.
 use native.Mathlib.Omega.{arith}
 use borrow.Author.Needs.{needs}
 use Rattle.schedule.specs.Cover.{coverCall}
@@ -7,7 +7,7 @@ use Rattle.timing.specs.Laws.Called.{no-room, covered-so}
 use Rattle.timing.proofs.timing_cover.Statement.{statement}
 use Rattle.timing.proofs.timing_cover.Tie as tie
 
--- the cover call, and before it an output of two places
+-- the cover call, and before it an output of three places
 abbrev call-of : tie.After-slice-known8 → tie.After-cover
 call-of c = c .before .before .before .before .before .before .before .before .before .before
 

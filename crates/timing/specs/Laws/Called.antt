@@ -21,18 +21,18 @@ planned-so call file starts processors scratch {starts′} {processors′} {scra
     ap (λ (k : ℕ). called k starts′ processors′ scratch′) g ∙ ap numbered e
 
 module _ (call : List ℕ → List ℕ → List ℕ → List ℕ → Call Covered) (file starts processors scratch out : List ℕ) where
-  -- an output without two places
-  pub no-room : (n : ℕ) → length out < 2 → n ≡ orNine (readJob file)
+  -- an output without three places
+  pub no-room : (n : ℕ) → length out < 3 → n ≡ orNine (readJob file)
       → coverReturned n starts processors scratch out ≡ coverTimed call file starts processors scratch out
   unfolding coverTimed
-  no-room n h e = simp (lt-ltb (length out) 2 h) (ap (λ (k : ℕ). coverReturned k starts processors scratch out) e)
+  no-room n h e = simp (lt-ltb (length out) 3 h) (ap (λ (k : ℕ). coverReturned k starts processors scratch out) e)
 
-  -- a cover call, whose number is told and whose figures are put into an output that has two places
-  pub covered-so : {starts′ processors′ scratch′ out′ : List ℕ} {r : Covered} {n : ℕ} → 2 ≤ length out
+  -- a cover call, whose number is told and whose figures are put into an output that has three places
+  pub covered-so : {starts′ processors′ scratch′ out′ : List ℕ} {r : Covered} {n : ℕ} → 3 ≤ length out
       → called r starts′ processors′ scratch′ ≡ call file starts processors scratch → n ≡ refusalIn r → out′ ≡ numbersIn r out
       → coverReturned n starts′ processors′ scratch′ out′ ≡ coverTimed call file starts processors scratch out
   unfolding coverTimed
-  covered-so {starts′} {processors′} {scratch′} {out′} {r} two e g o =
+  covered-so {starts′} {processors′} {scratch′} {out′} {r} three e g o =
       ap (λ (k : ℕ). coverReturned k starts′ processors′ scratch′ out′) g
       ∙ (ap (coverReturned (refusalIn r) starts′ processors′ scratch′) o
-      ∙ (ap (λ (c : Call Covered). withOutput c out) e ∙ simp (le-ltb (length out) 2 two)))
+      ∙ (ap (λ (c : Call Covered). withOutput c out) e ∙ simp (le-ltb (length out) 3 three)))
