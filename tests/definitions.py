@@ -6,10 +6,10 @@ proof.
 
 It copies the definitions, and what they cite in the crates below, to target/definitions: no law, no theorem and no function, so
 that a changed definition can be tried before the laws are mended. Beside them it writes a crate `held` with a theorem a job, each
-by computing the definitions: the plan, its end, C, the dearest chain, each result's time and the dearest, the rounds and the
-arrivals, all of these by number and by weight; the weights and the order by them; the square of costs, the checker's answers to some
-plans, and the pages of those that are good. `rt dev` then says which do not hold. What is expected is by the reference alone,
-tests/rules.py.
+by computing the definitions: the plan, its end, C, the least C, the dearest chain, each result's time and the dearest, the rounds
+and the arrivals, all of these by number and by weight; the weights and the order by them; the square of costs, the checker's answers
+to some plans, and the pages of those that are good. `rt dev` then says which do not hold. What is expected is by the reference alone,
+tests/rules.py. Of eight jobs three are drawn until a walk's idle board, predecessor or first step makes a difference to the least C.
 
 Status 1: the definitions and the reference differ. Status 2: they cannot be compared, as a definition does not check.
 """
@@ -25,10 +25,12 @@ sys.dont_write_bytecode = True
 import rules  # noqa: E402
 from kelvrist.crates import Crates, kept, rt, sources  # noqa: E402
 from kelvrist.inout import Trouble  # noqa: E402
+from vectors.leasts import NARROWER, tells  # noqa: E402
 
 FOLDER = TOP / "target" / "definitions"
 CRATE, PAGE = "etf", "gantt"  # the second is above the first
-MODULES = {CRATE: "Instance Schedule Rule Cover Dearest Checker Topology OfJob Weight", PAGE: "Page"}  # what they cite is found
+MODULES = {CRATE: "Instance Schedule Rule Cover Least Dearest Checker Topology OfJob Weight", PAGE: "Page"}  # what they cite is found
+MOST_VISITS = 5000  # where there are some hundred thousand, the prover comes to its limit of steps
 CITED = re.compile(r"^(?:pub )?use Rattle·(\w+?)(?:·specs)?\.specs\.([\w.]+)\.\{", re.M)
 COMPUTES, SHORT = re.compile(r"^ *unfoldable pub (\S+) :", re.M), re.compile(r"^ *abbrev pub (\S+) :", re.M)
 RESULTS = "resultOf resultTime dearestResult end".split()  # brought in where they only abbreviate, too
@@ -69,7 +71,7 @@ numberOf (some k) = k
 seen : Instance → (ℕ → ℕ) → List (List ℕ)
 seen I r =
     map (λ (u : Placement). u .task ∷ u .processor ∷ u .start ∷ finish I u ∷ resultTime I r u ∷ []) (byTask I (planned I))
-    ++ ((end I r (planned I) ∷ cover I ∷ dearest I ∷ dearestResult I r (planned I) ∷ rounds I ∷ [])
+    ++ ((end I r (planned I) ∷ cover I ∷ least I ∷ dearest I ∷ dearestResult I r (planned I) ∷ rounds I ∷ [])
     ∷ map (λ T. map (λ P. arrival I (planned I) T P) (upto (I .processors))) (upto (tasks I)))
 
 checked : Instance → List ℕ → List ℕ → ℕ
@@ -159,6 +161,25 @@ def some_job(dice):
     return job
 
 
+def visits(job, plan):
+    """How often the definition of the least C comes to a step, at most, from one that finishes last: it takes the walks one by one."""
+    count = []
+    for step in range(len(job.steps)):
+        count.append(1 + sum(count[before] for _, before in rules.walk_choices(job, plan, step) or []))
+    return max(count)
+
+
+def some_jobs(dice, count):
+    """So many jobs that can be computed. Of eight three are such that the least C is another where one choice of a walk is not left
+    open: board, predecessor, first step."""
+    tellings = list(NARROWER.values())
+    for i in range(count):
+        told_by = tellings[i % 8 : i % 8 + 1]
+        jobs = (some_job(dice) for _ in range(100_000))
+        yield next(job for job in jobs if all(tells(other, job, "number") for other in told_by)
+                   and all(visits(job, rules.plan(job, ties)) <= MOST_VISITS for ties in ("number", "weight")))
+
+
 def some_results(dice, job):
     """Results of none of the steps that may have one, of some or of all."""
     share, most = dice.choice((0, 0.5, 1, 1)), dice.choice((1, 5, 1000))
@@ -186,17 +207,18 @@ def seen(job, plan):
     m, n, durations = len(job.steps), job.boards, job.durations
     times = dict(rules.result_times(job, plan.board))
     lines = [(t, plan.board[t], plan.start[t], plan.start[t] + durations[t], times.get(t, 0)) for t in range(m)]
-    lines.append((plan.end, rules.cover(job, plan), rules.dearest(job), rules.dearest_result(job, plan), plan.rounds))
+    lines.append((plan.end, *rules.figures(job, plan), rules.dearest_result(job, plan), plan.rounds))
     return lines + [plan.arrival[16 * t : 16 * t + n] for t in range(m)]
 
 
-def theorem(i, dice, names):
-    job = some_job(dice)
+def theorem(i, job, dice, names):
     plan, weights = rules.plan(job), rules.weights(job)
     m, n, durations = len(job.steps), job.boards, job.durations
     wires, links, results = made("wire", job.wires), made("link", job.links), made("result", job.results)
     text = [f"abbrev job-{i} : Job", f"job-{i} = job {n} {job.wiring} {job.unit} {wires} {numbers(durations)} {links} {results}", ""]
+    below = 0
     for name, of, made_plan in (("plan", "instance", plan), ("by-weight", "instanceByWeight", rules.plan(job, "weight"))):
+        below += rules.least(job, made_plan) < rules.cover(job, made_plan)
         text += [f"{name}-{i} : seen ({of} job-{i}) (resultOf job-{i}) ≡ {rows(seen(job, made_plan))}"]
         text += [f"unfolding seen bind flatMap {names}", f"{name}-{i} = refl", ""]
     order = sorted(range(m), key=lambda t: (-weights[t], t))
@@ -213,18 +235,19 @@ def theorem(i, dice, names):
             page = " ++ ".join(f'text "{row}\\n"' for row in rules.page(job, boards, starts).decode().splitlines())
             text += [f"page-{i}-{k} : drawn (instance job-{i}) {numbers(boards)} {numbers(starts)} ≡ {page}"]
             text += [f"unfolding drawn flatMap {names}", f"page-{i}-{k} = refl", ""]
-    return "\n".join(text), found
+    return "\n".join(text), found, below
 
 
 def write(count, dice):
-    """Writes the crates. Gives how many lines of Held.antt stand before its theorems, and the answers that the plans get."""
+    """Writes the crates. Gives how many lines of Held.antt stand before its theorems, the answers that the plans get, and how many of
+    the planner's, by number and by weight, have a least C below C."""
     crates = Crates()
     modules = cited(crates)
     needed = [crate for crate in [*crates.below(PAGE), PAGE] if any(crate == of for of, _ in modules)]
     left = [crate for crate in crates.line if crate not in needed]
     lines, names = brought_in(modules)
     head = HEAD.format(uses="\n".join(lines))
-    theorems = [theorem(i, dice, " ".join(names)) for i in range(count)]
+    theorems = [theorem(i, job, dice, " ".join(names)) for i, job in enumerate(some_jobs(dice, count))]
     shutil.rmtree(FOLDER / "crates", ignore_errors=True)
     for crate in needed:
         write_crate(crates, crate, {module: text for (of, module), text in modules.items() if of == crate}, left)
@@ -235,8 +258,8 @@ def write(count, dice):
     (FOLDER / "crates.txt").write_text("".join(f"{crate}: {' '.join(used)}\n" for crate, used in {**uses, "held": needed}.items()))
     (held / "src" / "lib.rt").write_text("// No functions.\n")
     (held / "specs" / "Lib.antt").write_text("pub mod Held\n")
-    (held / "specs" / "Held.antt").write_text(head + "\n" + "\n".join(text for text, _ in theorems))
-    return head.count("\n"), [answer for _, found in theorems for answer in found]
+    (held / "specs" / "Held.antt").write_text(head + "\n" + "\n".join(text for text, _, _ in theorems))
+    return head.count("\n"), [answer for _, found, _ in theorems for answer in found], sum(below for _, _, below in theorems)
 
 
 # ---- what rt says of them
@@ -276,12 +299,13 @@ def main(words):
     count = int(told["jobs"] or 40)
     print(f"seed {seed}, {count} jobs", flush=True)
     try:
-        head, answers = write(count, random.Random(seed))
+        head, answers, below = write(count, random.Random(seed))
         judge(*rt("dev", "held", folder=FOLDER), head)
     except Trouble as trouble:
         stop(2, f"cannot compare: {trouble}", [])
     tally = ", ".join(f"{a}: {answers.count(a)}" for a in sorted(set(answers)))
-    print(f"the definitions agree with the reference on {count} jobs and {len(answers)} plans (answers {tally})")
+    print(f"the definitions agree with the reference on {count} jobs and {len(answers)} plans (answers {tally}); of {2 * count} plans by "
+          f"number and by weight {below} have a least C below C")
 
 
 main(sys.argv[1:])

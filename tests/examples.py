@@ -4,17 +4,19 @@
     examples.py
 
 Of each example: its text makes its job file, the job file's text makes it again, the reference prints its plan, and the chart
-is well-formed and has a box for each step and a mark for each result. Where a text tells both plans, by number and by weight, they
-are the reference's. docs/plan.svg is what tools/gantt draws, and the pages in
-README.md, docs/page.1 and crates/page/stdout are the reference's of its plans. A table of bad texts and bad files has the message
-that each gets. On random files tools/job refuses as the reference does, tools/gantt has the reference's end, and its walk the
-reference's cover for its sum. The first thing that differs is printed, with status 1.
+is well-formed and has a box for each step, a mark for each result and the chains of cover and least. Where a text tells both plans,
+by number and by weight, they are the reference's. docs/plan.svg is what tools/gantt draws, and the pages in README.md, docs/page.1
+and crates/page/stdout are the reference's of its plans. A table of bad texts and bad files has the message that each gets. On random
+files tools/job refuses as the reference does; on those that are small jobs, and on little ones, tools/gantt has the reference's end,
+its two walks the reference's cover and least for their sums, and each move of the least's is one that the reference allows. Where the
+walks of a plan are few, it is the first in order of those with the least sum. The first thing that differs is printed, with status 1.
 """
 import re
 import subprocess
 import sys
 import textwrap
 import xml.etree.ElementTree as Xml
+from itertools import islice
 from pathlib import Path
 
 TOP = Path(__file__).resolve().parent.parent
@@ -23,15 +25,17 @@ sys.dont_write_bytecode = True
 import rules  # noqa: E402
 from jobs import some_file  # noqa: E402
 from kelvrist import jobfile, jobtext, listing, results  # noqa: E402
-from kelvrist.walk import walk  # noqa: E402
+from kelvrist.inout import Trouble  # noqa: E402
+from kelvrist.walk import Walk, cover_walk, least_walk, ways_on  # noqa: E402
 from vectors.dice import Dice  # noqa: E402
+from vectors.weights import little_job  # noqa: E402
 
 EXAMPLES = TOP / "examples"
 NAMES = ["a", "branches", "cube16", "forkjoin", "greatest", "postponed", "results", "ring", "wires"]
 PICTURE = "forkjoin"  # the example that docs/plan.svg shows
 RUN = "cube16"  # the example that the gate runs program `page` on
 BOTH = "branches"  # the example whose text tells its plans by number and by weight
-FILES = 300
+FILES, LITTLE_JOBS, FEW_WALKS = 300, 400, 2000
 # Where pages of examples stand: the file, how an example and its page are found there, how far it is indented, and the examples.
 PAGES = [
     ("README.md", r"`make page JOB=examples/(\w+)\.job` prints[^`]*```\n(.*?)```\n", "", [PICTURE]),
@@ -191,13 +195,28 @@ def hold_example(name):
     chart, said, status = run("gantt", job, data=plan.read_bytes())
     hold(f"the chart of {name}", (said, status), ("", 0))
     boxes = [box for box in Xml.fromstring(chart).iter(f"{SVG}rect") if box.find(f"{SVG}title") is not None]
-    rows = [row.split() for row in plan.read_text().split("\n")[1:-4]]
+    rows = [row.split() for row in plan.read_text().split("\n")[1:-5]]
     due = ["step {}: board {}, start {}, finish {}".format(*row) for row in rows]
     hold(f"the boxes of {name}", [box.find(f"{SVG}title").text for box in boxes], due)
     marks = [mark for mark in Xml.fromstring(chart).iter(f"{SVG}path") if mark.get("class") == "gate"]
     hold(f"the results of {name}", [mark.find(f"{SVG}title").text for mark in marks], list(due_marks(rules.read(data))))
+    hold_chains(name, chart, rules.read(data))
     if name == PICTURE:
         hold("docs/plan.svg", (TOP / "docs" / "plan.svg").read_bytes(), chart)
+
+
+def hold_chains(name, chart, job):
+    """The chart's chains: what the moves that it draws take in all is cover and least, and their steps have the chain's colour. Where the
+    least is the cover, one chain is drawn, as the cover's."""
+    cover, least, _ = rules.figures(job, rules.plan(job))
+    links, boxes = ([drawn for drawn in Xml.fromstring(chart).iter(SVG + shape) if drawn.find(f"{SVG}title") is not None
+                     and kind in drawn.get("class").split()] for shape, kind in (("path", "link"), ("rect", "step")))
+    for chain, due in ("cover", cover), ("least", 0 if least == cover else least):
+        titles = [link.find(f"{SVG}title").text for link in links if ("least" in link.get("class").split()) == (chain == "least")]
+        moves = [re.search(r"from step (\d+) back to (\d+): .* messages take ([\d,]+) ticks? to it$", title).groups() for title in titles]
+        hold(f"the sum of the {chain}'s chain of {name}", sum(int(time.replace(",", "")) for _, _, time in moves), due)
+        coloured = {str(step) for step, box in enumerate(boxes) if chain in box.get("class").split()}
+        hold(f"the steps on the {chain}'s chain of {name}", sorted(coloured), sorted({step for move in moves for step in move[:2]}))
 
 
 def hold_both_plans():
@@ -271,17 +290,77 @@ def answer(module, data):
     return 0
 
 
-def hold_walks():
-    """The end, and the walk's sum, which is the cover, on the random files that are small jobs; gives how many."""
-    walked = 0
+def walked_files():
+    """The random files that are small jobs, and little jobs, in which ties are likely, with their names."""
     for number in range(FILES):
         data = some_file(Dice(number))
         if answer(rules, data) == 0 and len(data) < 400:
-            plan, job = listing.read(rules.report(data).encode()), jobfile.read(data)
-            hold(f"the end in random file {number}", results.end(job, plan.steps), plan.end)
-            hold(f"the walk's sum in random file {number}", sum(move.time for move in walk(job, plan.steps)), plan.cover)
-            walked += 1
-    return walked
+            yield f"random file {number}", data
+    for number in range(LITTLE_JOBS):
+        yield f"little job {number}", rules.write(little_job(Dice(number)))
+
+
+def hold_walks():
+    """The end, and the walks' sums, which are cover and least; gives on how many jobs, and on how many the least is below the cover."""
+    walked = below = 0
+    for name, data in walked_files():
+        plan, job = listing.read(rules.report(data).encode()), jobfile.read(data)
+        cover, least = cover_walk(job, plan.steps), least_walk(job, plan.steps)
+        hold(f"the end in {name}", results.end(job, plan.steps), plan.end)
+        hold(f"the sum of the cover's walk in {name}", cover.total(), plan.cover)
+        hold(f"the sum of the least's walk in {name}", least.total(), plan.least)
+        hold_least(f"the least's walk in {name}", rules.read(data), least)
+        hold_first(f"the least's walk in {name}", job, plan.steps, cover, least)
+        walked, below = walked + 1, below + (plan.least < plan.cover)
+    return walked, below
+
+
+def hold_least(what, job, walk):
+    """A walk begins with a step that finishes last, makes moves that the reference allows, and ends where that has none."""
+    plan = rules.plan(job)
+    hold(f"{what}, the finish of its first step", plan.start[walk.first] + job.durations[walk.first], plan.last)
+    at = walk.first
+    for move in walk.moves:
+        allowed = rules.walk_choices(job, plan, at) or []
+        hold(f"{what}, the move at step {at}", (move.step, (move.time, move.predecessor) in allowed), (at, True))
+        at = move.predecessor
+    hold(f"{what}, the moves after step {at}", rules.walk_choices(job, plan, at), None)
+
+
+def walks_from(job, steps, step):
+    """All walks from a step."""
+    ways = ways_on(job, steps, steps[step])
+    if ways is None:
+        yield Walk(step, [])
+    for move in ways or []:
+        for walk in walks_from(job, steps, move.predecessor):
+            yield Walk(step, [move, *walk.moves])
+
+
+def hold_first(what, job, steps, cover, least):
+    """Where all walks of a plan are few: the least's is the cover's if that has the least sum, else the first of those that have, by first
+    step, then by board and predecessor of each move."""
+    last = max(row.finish for row in steps)
+    walks = list(islice((walk for row in steps if row.finish == last for walk in walks_from(job, steps, row.step)), FEW_WALKS))
+    if len(walks) < FEW_WALKS:
+        due = min(walks, key=lambda walk: (walk.total(), walk.first, [(move.board, move.predecessor) for move in walk.moves]))
+        hold(what, least, cover if cover.total() == due.total() else due)
+
+
+def hold_strange():
+    """Plans that are not the planner's, as a walk of theirs comes to no end."""
+    for walk, rows, said in (
+        (cover_walk, "0 0 1 5\n1 0 5 9\n", "board 0 is idle at tick 0, and step 0 waits for nothing"),
+        (least_walk, "0 0 1 5\n1 0 5 9\n", "no walk from step 1 comes to a step before which no tick is short"),
+        (least_walk, "0 0 0 4\n1 0 20 24\n", "no walk from step 1 comes to a step before which no tick is short"),
+    ):
+        plan = listing.read(f"plan 2 2 1\n{rows}end 24\ncover 0\nleast 0\ndearest 2\n".encode())
+        try:
+            walk(jobfile.read(jobtext.make("rack 2 flat 2\nstep 4\nstep 4\nlink 0 1 1\n")), plan.steps)
+        except Trouble as trouble:
+            hold(f"a plan that is not the planner's, {rows!r}", str(trouble), f"this plan is not the planner's: {said}")
+        else:
+            raise Differs(f"the plan {rows!r} is taken for the planner's")
 
 
 def hold_programs():
@@ -302,12 +381,27 @@ def hold_programs():
     hold("tools/gantt of no listing", run("gantt", job, data=b"\xff\n"), (b"", said, 1))
     said = "the listing's cover is 5, but the walk's sum is 6\n"
     hold("tools/gantt of a wrong cover", run("gantt", job, data=plan.read_bytes().replace(b"cover 6", b"cover 5"))[1:], (said, 1))
+    hold_wrong_least(job, plan.read_bytes())
     said = "the listing is of another job: 2 boards, 3 steps and 2 links, the job has 8, 16 and 26\n"
     hold("tools/gantt of another job", run("gantt", EXAMPLES / "ring.job", data=plan.read_bytes()), (b"", said, 1))
     hold("tools/gantt of a listing alone", run("gantt", data=plan.read_bytes())[1:], ("", 0))
     hold_ends(plan.read_bytes())
     closed = subprocess.run(f"'{sys.executable}' '{TOP}/tools/job' show '{job}' 2>&1 >&-", shell=True, capture_output=True, text=True)
     hold("tools/job with no output", (closed.stdout, closed.returncode), ("standard output: Bad file descriptor\n", 1))
+
+
+def hold_wrong_least(job, plan):
+    """tools/gantt of listings whose least is not the least walk's sum, says so in the chart too, or who have none."""
+    said = "the listing's least is 6, but the least walk's sum is 2"
+    chart, *told = run("gantt", job, data=plan.replace(b"least 2", b"least 6"))
+    hold("tools/gantt of a wrong least", told, [said + "\n", 1])
+    wrong = [text.text for text in Xml.fromstring(chart).iter(f"{SVG}text") if text.get("class") == "wrong"]
+    hold("the chart of a wrong least", wrong, [said])
+    both = plan.replace(b"cover 6", b"cover 5").replace(b"least 2", b"least 6")
+    said = f"the listing's cover is 5, but the walk's sum is 6; {said}\n"
+    hold("tools/gantt of a wrong cover and least", run("gantt", job, data=both)[1:], (said, 1))
+    said = "this is no plan's listing: line 7 should be `least` with a number\n"
+    hold("tools/gantt of a listing without least", run("gantt", job, data=plan.replace(b"least 2\n", b"")), (b"", said, 1))
 
 
 def hold_ends(plan):
@@ -331,14 +425,15 @@ def main():
         hold_pages()
         hold_texts()
         hold_files()
-        walked = hold_walks()
+        walked, below = hold_walks()
+        hold_strange()
         hold_programs()
     except Differs as trouble:
         print(f"examples: FAILED: {trouble}")
         return 1
     pages = 1 + sum(len(names) for *_, names in PAGES)
     print(f"examples: {len(NAMES)} jobs with text, plan and chart, {pages} pages, {len(BAD_TEXTS)} bad texts, {len(BAD_FILES)} bad files, "
-          f"{FILES} random files, {walked} walks: 0 differ")
+          f"{FILES} random files, the walks of {walked} jobs, {below} with a least below the cover: 0 differ")
     return 0
 
 

@@ -14,8 +14,8 @@ from pathlib import Path
 TOP = Path(__file__).resolve().parent.parent
 sys.path.insert(0, str(TOP / "tests"))
 sys.dont_write_bytecode = True
-from vectors import arrived, checking, larger, loaded, pages, reading, refusals, results, shortcuts, weights, wires, worked  # noqa: E402
-from vectors import writing  # noqa: E402
+from vectors import arrived, checking, larger, leasts, loaded, pages, reading, refusals, results, shortcuts, weights  # noqa: E402
+from vectors import wires, worked, writing  # noqa: E402
 from vectors.cases import Cases  # noqa: E402
 from vectors.dice import Dice  # noqa: E402
 
@@ -26,7 +26,8 @@ STDOUT = TOP / "crates" / "vectors" / "stdout"
 
 def all_cases():
     cases, dice = Cases(), Dice(SEED)
-    for part in (reading, writing, worked, refusals, checking, shortcuts, larger, wires, loaded, results, arrived, pages, weights):
+    for part in (reading, writing, worked, refusals, checking, shortcuts, larger, wires, loaded, results, arrived, pages, weights,
+                 leasts):
         part.add_cases(cases, dice)
     return cases
 

@@ -9,10 +9,10 @@ from types import ModuleType
 sys.path.insert(0, str(Path(__file__).resolve().parent / "reference"))
 import requests  # noqa: E402
 from requests import LATEST_START, Job, Refused, pairs_due, plain, read, report, square, write  # noqa: E402,F401
-from requests import bundle, check, cost, cover, dearest, dearest_result, hops, page, page_length, plan  # noqa: E402,F401
-from requests import planner, result_times, weights  # noqa: E402,F401
+from requests import bundle, check, cost, cover, dearest, dearest_result, figures, hops, least, page, page_length  # noqa: E402,F401
+from requests import plan, planner, result_times, walk_choices, weights  # noqa: E402,F401
 
-LANDED = (1, 2, 3, 4, 6)
+LANDED = (1, 2, 3, 4, 6, 7)
 requests.set_in_force(LANDED)
 
 

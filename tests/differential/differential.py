@@ -27,6 +27,7 @@ from vectors.plans import as_bytes, as_plan, handed_in  # noqa: E402
 STDIN = TOP / "crates" / "vectors" / "stdin"
 ARCHIVES = {"library": "target/staticlib/libkelvrist.a", "timing": "target/staticlib/libtiming.a"}
 SCRATCH, SMALL_SCRATCH = 4096, 512
+FIGURES = 3  # what a cover call gives: C, the least C and the dearest chain
 
 
 class Differs(Exception):
@@ -39,12 +40,13 @@ def as_words(numbers):
 
 
 class File:
-    """A job's bytes and what the reference says of them: a refusal's number, or 0, the job, its plan, that by weight, what each call
-    that fills slices writes to the front of them, and the pages of plans that were asked for."""
+    """A job's bytes and what the reference says of them: a refusal's number, or 0, the job, its plan, that by weight, whether the least C
+    of one of the two is below its C, what each call that fills slices writes to the front of them, and the pages of plans that were
+    asked for."""
 
     def __init__(self, data):
         self.data, self.refusal, self.job, self.written, self.pages = data, 0, None, {}, {}
-        self.plan, self.by_weight = [], []
+        self.plan, self.by_weight, self.below = [], [], False
         try:
             self.job = rules.read(data)
         except rules.Refused as refused:
@@ -52,10 +54,10 @@ class File:
             return
         planned, weighed = rules.plan(self.job), rules.plan(self.job, "weight")
         self.plan, self.by_weight = (list(zip(made.board, made.start)) for made in (planned, weighed))
-        dearest = rules.dearest(self.job)
         for call, made in (("timing_cover", planned), ("timing_cover_by_weight", weighed)):
-            self.written[call] = [as_words(made.start), bytes(made.board), as_words(made.arrival),
-                                  as_words([rules.cover(self.job, made), dearest])]
+            cover, least, dearest = rules.figures(self.job, made)
+            self.below |= least < cover
+            self.written[call] = [as_words(made.start), bytes(made.board), as_words(made.arrival), as_words([cover, least, dearest])]
         self.written["timing_plan_by_weight"] = self.written["timing_cover_by_weight"][:3]
         starts, processors, scratch = [1] * len(self.plan), [1] * len(self.plan), [1] * SMALL_SCRATCH
         rules.planner(data, starts, processors, scratch, "small")
@@ -97,7 +99,7 @@ def in_slices(rows):
 def places(call, m):
     """The places that a call asks for of starts, processors and scratch, and a cover call of its output."""
     scratch = SMALL_SCRATCH if call == "timing_small" else SCRATCH
-    return [m, m, scratch, 2] if call.startswith("timing_cover") else [m, m, scratch]
+    return [m, m, scratch, FIGURES] if call.startswith("timing_cover") else [m, m, scratch]
 
 
 def some_rooms(dice, enough):
@@ -115,7 +117,7 @@ class Held:
         self.schedule, self.timing = schedule, timing
         calls = *schedule.PLANNERS, "kelvrist_check", *timing.FILLING, "kelvrist_page", "timing_draw"
         self.answers = {call: Counter() for call in calls}
-        self.good = self.apart = 0
+        self.good = self.apart = self.below = 0
 
     def plan(self, call, file, room, fill):
         due = file.answer(room)
@@ -205,9 +207,11 @@ class Held:
                 self.filled(call, file, rooms, dice.below(256))
 
     def plans(self, dice, file):
-        """The planners in the same buffers; how often the one by weight makes another plan is counted."""
+        """The planners in the same buffers; how often the one by weight makes another plan is counted, and how often the least C is
+        below C."""
         self.good += not file.refusal
         self.apart += file.by_weight != file.plan
+        self.below += file.below
         need = 5 * len(file.plan)
         for room in (need, need + dice.between(1, 9), dice.one_of([0, max(0, need - 1), dice.below(need + 1), 1280])):
             fill = dice.below(256)
@@ -281,7 +285,7 @@ def main(words):
         return 1
     for name, tallied in held.answers.items():
         print(f"{name} answered {tally(tallied)}")
-    print(f"{held.apart} of {held.good} good jobs have another plan by weight")
+    print(f"{held.apart} of {held.good} good jobs have another plan by weight, {held.below} a least C below C")
     print(f"differential: {what}, {sum(sum(tallied.values()) for tallied in held.answers.values())} calls, 0 differ")
     return 0
 

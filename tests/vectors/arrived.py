@@ -107,9 +107,9 @@ def worked(cases):
     three = rules.job(4, 2, 3, [20, 9, 7, 12], [])
     for end, results in ((20, [(2, 1), (3, 1)]), (31, [(2, 4), (3, 1)]), (33, [(1, 8), (2, 4), (3, 1)]), (36, [(1, 8), (2, 4), (3, 8)])):
         ended(cases, end, with_some(three, results), planned)
-    # a job with results has the plan, C and dearest chain that it has without
+    # a job with results has the plan, C, least C and dearest chain that it has without
     file, bare = of_job(SMALL_RESULTS), of_job(with_some(SMALL_RESULTS, []))
-    assert (file.plan.start, file.plan.board, file.cover, file.dearest) == (bare.plan.start, bare.plan.board, bare.cover, bare.dearest)
+    assert (file.plan.start, file.plan.board, file.figures) == (bare.plan.start, bare.plan.board, bare.figures)
     assert file.plan.end > bare.plan.end
     planned(cases, file.data, 2)
     planned(cases, bare.data)

@@ -56,13 +56,13 @@ def lent(file, starts, processors, scratch, fills):
 
 
 def planned_lines(file, how, slices, made):
-    """The planner and the cover call, by this name, on these slices; `made` gives a good file's plan and its C."""
+    """The planner and the cover call, by this name, on these slices; `made` gives a good file's plan and its figures."""
     short = any(len(each) < asked for each, asked in zip(slices, (file.tasks, file.tasks, SCRATCH)))
     refusal = file.refusal or (9 if short else 0)
     planned = covered = ["refused", refusal]
     if not refusal:
-        made, cover = made()
-        planned, covered = [file.tasks, made.end], [cover, file.dearest]
+        made, covered = made()
+        planned = [file.tasks, made.end]
         slices = [front(whole, begin) for whole, begin in zip(slices, (made.start, made.board, made.arrival))]
     return [slices_line(file, [call + how, *said], *slices) for call, said in (("plan", planned), ("cover", covered))]
 
@@ -72,7 +72,7 @@ def plan(cases, data, starts=None, processors=None, scratch=SCRATCH, fills=FILLS
     told."""
     file = told(data)
     slices, body = lent(file, starts, processors, scratch, fills)
-    lines = planned_lines(file, "", slices, lambda: (file.plan, file.cover))
+    lines = planned_lines(file, "", slices, lambda: (file.plan, file.figures))
     cases.add(b"p", body, *lines, small_line(data, slices))
 
 

@@ -17,7 +17,7 @@ def digest(numbers):
 
 
 class Told:
-    """A file: a refusal's number, or 0, the job, its plan, C and the dearest chain."""
+    """A file: a refusal's number, or 0, the job, its plan, C, the least C and the dearest chain."""
 
     def __init__(self, data):
         self.data, self.refusal, self.job, self.tasks = data, 0, None, 0
@@ -28,13 +28,13 @@ class Told:
             return
         self.tasks = len(self.job.steps)
         self.plan = rules.plan(self.job)
-        self.cover, self.dearest = rules.cover(self.job, self.plan), rules.dearest(self.job)
+        self.figures = self.cover, self.least, self.dearest = rules.figures(self.job, self.plan)
 
     @cached_property
     def by_weight(self):
-        """The plan with ties by weight, and its C."""
+        """The plan with ties by weight, and what the cover call gives of it."""
         plan = rules.plan(self.job, "weight")
-        return plan, rules.cover(self.job, plan)
+        return plan, rules.figures(self.job, plan)
 
     def bytes(self):
         """The planner's plan as the station controller gets it."""

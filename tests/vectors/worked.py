@@ -14,6 +14,7 @@ TEXT_OF_A = """plan 2 3 2
 2 1 6 8
 end 8
 cover 6
+least 2
 dearest 6
 """
 
@@ -43,7 +44,7 @@ def spread_cases(cases):
         file = of_job(spread(unit))
         assert (file.plan.board[2], file.plan.start[2], file.plan.end) == (board, start, end)
         planned(cases, file.data, more=1)
-    assert file.cover == 5
+    assert file.figures == (5, 5, 5)
 
 
 def hop_cases(cases):
@@ -81,7 +82,7 @@ def add_cases(cases, dice):
     assert rules.write(SMALL) == BYTES_OF_A and rules.report(BYTES_OF_A) == TEXT_OF_A
     planned(cases, BYTES_OF_A)
     one = of_job(rules.job(1, 0, 0, [1], []))
-    assert (one.plan.start, one.plan.end, one.cover) == ([0], 1, 0)
+    assert (one.plan.start, one.plan.end, one.figures) == ([0], 1, (0, 0, 0))
     planned(cases, one.data)
     spread_cases(cases)
     hop_cases(cases)

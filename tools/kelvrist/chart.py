@@ -1,5 +1,5 @@
-"""The drawing of a plan: a row a board, a box a step, a line a message bundle between boards, the cover's chain in orange, results on
-their way to board 0 in green."""
+"""The drawing of a plan: a row a board, a box a step, a line a message bundle between boards, the cover's chain in orange, the least's
+in violet, results on their way to board 0 in green."""
 from html import escape
 
 from kelvrist.jobfile import OWN, WIRINGS
@@ -17,13 +17,20 @@ text { font: 12px system-ui, -apple-system, 'Segoe UI', 'DejaVu Sans', Arial, sa
 .grid { stroke: #d0d7de; stroke-width: 1; }
 .end { stroke: #24292f; stroke-width: 1.5; stroke-dasharray: 2 3; }
 .step { fill: #8cc4ee; stroke: #1f5f96; stroke-width: 1; }
-.step.chain { fill: #f2a93b; stroke: #8a3d00; stroke-width: 2; }
+.step.cover { fill: #f2a93b; stroke: #8a3d00; stroke-width: 2; }
+.step.least { fill: #c9a6f5; stroke: #6b21a8; stroke-width: 2; }
+.step.cover.least { fill: #f2a93b; stroke: #7e22ce; stroke-width: 4; }
 .label { text-anchor: middle; pointer-events: none; paint-order: stroke; stroke: #8cc4ee; stroke-width: 3px; }
-.label.chain { font-weight: 700; stroke: #f2a93b; }
+.label.least { font-weight: 700; stroke: #c9a6f5; }
+.label.cover { font-weight: 700; stroke: #f2a93b; }
 .message { fill: none; stroke: #57606a; stroke-width: 1; }
 .link { fill: none; stroke: #c2410c; stroke-width: 2.4; }
 .reckoned { fill: none; stroke: #c2410c; stroke-width: 1.8; stroke-dasharray: 5 4; }
 .there { fill: #ffffff; stroke: #c2410c; stroke-width: 1.8; }
+.link.least { stroke: #7e22ce; }
+.reckoned.least, .there.least { stroke: #7e22ce; }
+.link.least.both { stroke-width: 6; }
+.reckoned.least.both { stroke-width: 5; }
 .result { fill: none; stroke: #1a7f37; stroke-width: 1; }
 .result.last { stroke-width: 2.4; }
 .gate { fill: #1a7f37; stroke: #ffffff; stroke-width: 1; }
@@ -64,22 +71,22 @@ def tick_width(span, most):
 
 
 class Chart:
-    """A plan and where things stand on the page. `job` and `moves` are none where no job file is given."""
+    """A plan and where things stand on the page. `job` is none where no job file is given, and then there are no walks. `alike`: the
+    least's walk is the cover's, and one chain is drawn for both."""
 
-    def __init__(self, listing, job=None, moves=None):
-        self.listing, self.steps, self.job, self.moves = listing, listing.steps, job, moves or []
+    def __init__(self, listing, job=None, cover=None, least=None):
+        self.listing, self.steps, self.job = listing, listing.steps, job
+        self.cover, self.least, self.alike = cover, least, cover == least
+        self.walks = {} if job is None else {"cover": cover} if self.alike else {"least": least, "cover": cover}
         self.results = arrivals(job, self.steps) if job else []
         n = listing.boards
         self.box, self.pitch = (34, 54) if n <= 5 else (28, 46) if n <= 9 else (22, 38)
         most = max(sum(row.board == p for row in self.steps) for p in range(n))
         self.width = max(840, min(1900, 48 * most))
-        reckoned = [self.steps[move.predecessor].finish + move.time for move in self.moves]
+        reckoned = [self.steps[move.predecessor].finish + move.time for walk in self.walks.values() for move in walk.moves]
         self.span = min(max([listing.end] + reckoned), -(-listing.end * 5 // 4))
-        self.chain = {row for move in self.moves for row in (move.step, move.predecessor)}
-        if job and not self.moves:
-            self.chain = {max(self.steps, key=lambda row: row.finish).step}
         self.faint = 1 if listing.links <= 60 else 0.6 if listing.links <= 250 else 0.3
-        self.top = 100 if job else 78
+        self.top = 34 + 22 * len(list(self.captions()))
         self.bottom = self.top + n * self.pitch
 
     def x(self, tick):
@@ -88,6 +95,10 @@ class Chart:
     def y(self, board):
         """The upper edge of a board's boxes."""
         return float(self.top + board * self.pitch + (self.pitch - self.box) // 2)
+
+    def chains(self, step):
+        """The classes of a step by the chains that it is on."""
+        return "".join(f" {name}" for name, walk in self.walks.items() if step in walk.steps())
 
     # ---- the parts of the drawing, each a list of elements
 
@@ -107,20 +118,18 @@ class Chart:
 
     def boxes(self):
         for row in self.steps:
-            chain = " chain" if row.step in self.chain else ""
             wide = self.x(row.finish) - self.x(row.start)
             title = f"step {row.step}: board {row.board}, start {row.start}, finish {row.finish}"
             thin = {"style": "stroke-width: 0.4"} if wide < 6 else {}
-            yield tag("rect", title, cls="step" + chain, x=self.x(row.start), y=self.y(row.board), width=max(wide, 0.6), height=self.box,
-                      rx=min(3.0, wide / 4), **thin)
+            yield tag("rect", title, cls="step" + self.chains(row.step), x=self.x(row.start), y=self.y(row.board), width=max(wide, 0.6),
+                      height=self.box, rx=min(3.0, wide / 4), **thin)
 
     def labels(self):
         """The steps' numbers, where a box has room for one. They stand above the lines, with the box's colour around them."""
         for row in self.steps:
             middle, wide = self.x((row.start + row.finish) / 2), self.x(row.finish) - self.x(row.start)
             if wide >= 4 + DIGIT * len(str(row.step)):
-                chain = " chain" if row.step in self.chain else ""
-                yield tag("text", cls="label" + chain, x=middle, y=self.y(row.board) + self.box / 2 + 4, text=str(row.step))
+                yield tag("text", cls="label" + self.chains(row.step), x=middle, y=self.y(row.board) + self.box / 2 + 4, text=str(row.step))
 
     def way(self, before, arrival, row):
         """The way of a bundle: aslant until it is there, then along the row's edge until the step starts."""
@@ -155,20 +164,40 @@ class Chart:
         leave, reach = self.y(before.board) + self.box * (move.board > before.board), self.y(move.board) + self.box / 2
         return (self.x(before.finish), leave), (self.x(before.finish + part * move.time), leave + part * (reach - leave)), part == 1
 
+    def link_way(self, move):
+        """The way of the bundle that a move goes back along."""
+        before, row = self.steps[move.predecessor], self.steps[move.step]
+        (link,) = (link for link in self.job.links if link[:2] == (before.step, row.step))
+        return self.way(before, before.finish + bundle_time(self.job, link, before.board, row.board), row)
+
+    def idle_way(self, move):
+        """The way of a move to its idle board, where there is one to draw."""
+        found = self.reckoned(move)
+        return found and path(*found[:2])
+
     def walked(self):
-        """Each move of the walk: the link that it goes back along, and the way to the idle board."""
-        counts = {link[:2]: link for link in self.job.links} if self.job else {}
-        for move in self.moves:
-            before, row = self.steps[move.predecessor], self.steps[move.step]
-            there = before.finish + bundle_time(self.job, counts[move.predecessor, move.step], before.board, row.board)
-            title = (f"the walk goes from step {move.step} back to {move.predecessor}: board {move.board} is idle at tick {move.tick}, "
-                     f"and messages take {some(move.time, 'tick')} to it")
-            yield tag("path", title, cls="link", d=self.way(before, there, row))
-            leave, reach, whole = self.reckoned(move) or (None, None, False)
-            if leave:
-                yield tag("path", title, cls="reckoned", d=path(leave, reach))
-            if whole:
-                yield tag("circle", title, cls="there", cx=reach[0], cy=reach[1], r=4)
+        """The moves of the walks. Those of the least are drawn before those of the cover, which hide them where both are in one place; so
+        there they are wider."""
+        for name, walk in self.walks.items():
+            for move in walk.moves:
+                yield from self.moved(name, move)
+
+    def moved(self, name, move):
+        """A move: the link that it goes back along, and the way to the idle board, with a circle where the messages would be there."""
+        title = (f"{self.whose(name)} walk goes from step {move.step} back to {move.predecessor}: board {move.board} is idle at tick "
+                 f"{move.tick}, and messages take {some(move.time, 'tick')} to it")
+        least = " least" * (name == "least")
+        for kind, way in (("link", self.link_way), ("reckoned", self.idle_way)):
+            if place := way(move):
+                both = " both" * (name == "least" and place in map(way, self.cover.moves))
+                yield tag("path", title, cls=kind + least + both, d=place)
+        _, there, whole = self.reckoned(move) or (None, None, False)
+        if whole:
+            yield tag("circle", title, cls="there" + least, cx=there[0], cy=there[1], r=4)
+
+    def whose(self, name):
+        """A walk's name; one walk can be that of both figures."""
+        return "the cover's and the least's" if self.alike else f"the {name}'s"
 
     def delivered(self):
         """Each result on its way to board 0, and a mark on that board's row where it is there; one that makes the end stands out."""
@@ -184,7 +213,7 @@ class Chart:
     def captions(self):
         """The lines above the plan, each with its class."""
         listing = self.listing
-        title = f"end {listing.end:,}   cover {listing.cover:,}   dearest {listing.dearest:,}"
+        title = f"end {listing.end:,}   cover {listing.cover:,}   least {listing.least:,}   dearest {listing.dearest:,}"
         if self.results:
             title += f"   dearest result {max(result.time for result in self.results):,}"
         yield "title", title.replace("   ", " \u00a0 ")
@@ -192,11 +221,15 @@ class Chart:
         yield "note", f"{some(listing.boards, 'board')}{self.rack_words()}; {', '.join(counts)}"
         if not self.job:
             return
-        total = sum(move.time for move in self.moves)
-        if total != listing.cover:
-            yield "wrong", f"the listing's cover is {listing.cover:,}, but the walk's sum is {total:,}"
-        else:
-            yield "note", self.walk_words()
+        yield from (("wrong", words) for words in self.wrong())
+        yield from (("note", self.walk_words(name, walk)) for name, walk in reversed(self.walks.items()))
+
+    def wrong(self, form=","):
+        """A line on each figure of the listing that is not its walk's sum, with numbers of this form."""
+        for name, told, walk, which in (("cover", self.listing.cover, self.cover, "the walk's"),
+                                        ("least", self.listing.least, self.least, "the least walk's")):
+            if told != walk.total():
+                yield f"the listing's {name} is {told:{form}}, but {which} sum is {walk.total():{form}}"
 
     def rack_words(self):
         """The rack's wiring and costs, where the job is known."""
@@ -208,13 +241,15 @@ class Chart:
         costs = [wire[2] for wire in self.job.wires]
         return f", {some(len(costs), 'wire')} of cost {min(costs)} to {max(costs)}" if costs else ", no wires"
 
-    def walk_words(self):
-        """The walk in words, as far as it fits."""
-        words = f"cover's walk: step {self.moves[0].step}" if self.moves else "cover's walk: no tick is short before the step that finishes last"
-        for at, move in enumerate(self.moves):
+    def walk_words(self, name, walk):
+        """A walk in words, as far as it fits."""
+        words = f"{self.whose(name).removeprefix('the ')} walk: step {walk.first}"
+        if not walk.moves:
+            return f"{words}, which finishes last, and before which no tick is short"
+        for at, move in enumerate(walk.moves):
             more = f"{', back to' if at == 0 else ','} {move.predecessor} ({move.time:,})"
             if LETTER * (len(words) + len(more)) > self.width - 90:
-                return f"{words} and {len(self.moves) - at} more"
+                return f"{words} and {len(walk.moves) - at} more"
             words += more
         return words
 
@@ -239,15 +274,27 @@ class Chart:
     def legend_words(self):
         yield "step", "step"
         if self.job:
-            yield "step chain", "step on the cover's chain"
+            yield from self.chain_words()
             yield "message", "messages"
-        if self.moves:
-            yield "link", "link of the chain"
-        if any(self.reckoned(move) for move in self.moves):
-            yield "reckoned", "its time to the idle board"
+        for name, walk in reversed(self.walks.items()):
+            cls = " least" * (name == "least")
+            if walk.moves:
+                yield "link" + cls, f"link of {'the' if self.alike else self.whose(name)} chain"
+            if any(self.reckoned(move) for move in walk.moves):
+                yield "reckoned" + cls, "its time to the idle board"
         if self.results:
             yield "result", "result to board 0"
         yield "end", "end"
+
+    def chain_words(self):
+        """What the steps on the chains are: on one alone, or on both."""
+        cover, least = self.cover.steps(), self.least.steps()
+        if cover - least or self.alike:
+            yield "step cover", f"step on {self.whose('cover')} chain"
+        if least - cover:
+            yield "step least", "step on the least's chain"
+        if cover & least and not self.alike:
+            yield "step cover least", "step on both chains"
 
     def svg(self):
         """The whole drawing."""

@@ -1,4 +1,4 @@
-"""The listing that program `plan` prints, as document 01 gives it line by line."""
+"""The listing that program `plan` prints, as document 01 gives it line by line, with the line `least` of document 02 §7."""
 import re
 from typing import NamedTuple
 
@@ -24,6 +24,7 @@ class Listing(NamedTuple):
     steps: list
     end: int
     cover: int
+    least: int
     dearest: int
 
 
@@ -58,13 +59,13 @@ def read(data):
     if not (1 <= boards <= 16 and 1 <= count <= MOST_STEPS):
         raise Trouble("this is no plan's listing: it has 1 to 16 boards and 1 to 256 steps")
     steps = placed(lines, boards, count)
-    (end,), (cover,), (dearest,) = (numbers(lines, count + 1 + i, f"{word} N", f"`{word}` with a number")
-                                    for i, word in enumerate(("end", "cover", "dearest")))
-    if lines[count + 4 :] != [""]:
+    (end,), (cover,), (least,), (dearest,) = (numbers(lines, count + 1 + i, f"{word} N", f"`{word}` with a number")
+                                              for i, word in enumerate(("end", "cover", "least", "dearest")))
+    if lines[count + 5 :] != [""]:
         raise Trouble("this is no plan's listing: the line `dearest` and its line feed should be the last")
     if end < max(row.finish for row in steps):
         raise Trouble(f"this is no plan's listing: it ends at {end}, before the last finish, {max(row.finish for row in steps)}")
-    return Listing(boards, links, steps, end, cover, dearest)
+    return Listing(boards, links, steps, end, cover, least, dearest)
 
 
 def hold_to(listing, job):

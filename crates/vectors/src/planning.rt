@@ -30,6 +30,7 @@ fn show_covered(covered: Covered) {
     match covered {
         Covered::Cover(figures) => {
             show::word(number::wide32(figures.cover));
+            show::word(number::wide32(figures.least));
             show::word(number::wide32(figures.dearest));
         }
         Covered::Refused(number) => {
