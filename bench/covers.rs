@@ -1,5 +1,5 @@
-//! The cover calls, by number and by weight: held against the plain Rust ones, then timed against them, the one by number also against
-//! our planner; and the stack that ours take.
+//! The cover calls, by number and by weight: held against the plain Rust ones, then timed against them, and each of ours against
+//! its planner; and the stack that ours take.
 use std::hint::black_box;
 
 use crate::families::{Family, TASKS};
@@ -17,29 +17,35 @@ const ROOMS: [usize; 4] = [TASKS, TASKS, ARRIVALS, FIGURES];
 
 pub type Cover = fn(&[u8], &mut [u32], &mut [u8], &mut [u32], &mut [u32]) -> u32;
 
-/// A cover call: what its lines begin with, ours as it is exported and called, and the plain Rust one.
+/// A cover call: what its lines begin with, ours as it is exported and called, the plain Rust one, and our planner whose plan it measures.
 struct Calls {
     name: &'static str,
+    beside: &'static str,
     exported: &'static str,
     address: fn() -> usize,
     ours: Cover,
     rust: Cover,
+    planner: fn(&[u8], &mut [u8]) -> u32,
 }
 
 const CALLS: [Calls; 2] = [
     Calls {
         name: "cover",
+        beside: "cover/plan",
         exported: "timing_cover",
         address: proved::cover_address,
         ours: proved::cover,
         rust: cover::cover::<false>,
+        planner: proved::plan,
     },
     Calls {
         name: "cover by weight",
+        beside: "by weight: cover/plan",
         exported: "timing_cover_by_weight",
         address: proved::cover_by_weight_address,
         ours: proved::cover_by_weight,
         rust: cover::cover::<true>,
+        planner: proved::plan_by_weight,
     },
 ];
 
@@ -133,16 +139,16 @@ fn time_covers(calls: &Calls, family: &Family) {
     );
 }
 
-fn time_beside(family: &Family) {
+fn time_beside(calls: &Calls, family: &Family) {
     let (mut lent, mut plan) = (Lent::new(ROOMS), [0; 5 * TASKS]);
     timing::compare(
-        &format!("cover/plan {}", family.name),
+        &format!("{} {}", calls.beside, family.name),
         &family.files,
         |file| {
-            black_box(black_box(&mut lent).to(proved::cover, file));
+            black_box(black_box(&mut lent).to(calls.ours, file));
         },
         |file| {
-            black_box(proved::plan(file, black_box(&mut plan)));
+            black_box((calls.planner)(file, black_box(&mut plan)));
         },
     );
 }
@@ -155,9 +161,13 @@ pub fn time(families: &[Family]) {
     }
 }
 
-/// Times our cover call, which plans and measures, against our planner's call.
+/// Times each of our cover calls, which plan and measure, against the call of its planner.
 pub fn time_beside_plan(families: &[Family]) {
-    families.iter().for_each(time_beside);
+    for calls in &CALLS {
+        families
+            .iter()
+            .for_each(|family| time_beside(calls, family));
+    }
 }
 
 /// The most stack that each of our calls takes on the jobs of the families.
