@@ -1,5 +1,5 @@
--- The list of moves has just the moves that `MayGoBack` allows. In the planner's schedule it is empty only where no tick before the start is
--- short.
+-- The list of moves has just the moves that `MayGoBack` allows. In the planner's schedule it is empty only where no tick before the start
+-- is short.
 use mathlib.Core.Path.{_≡_, refl, sym, ap, subst}
 use mathlib.Core.Option.{Option, none, some}
 use mathlib.Core.List.{List, [], map, flatMap}
