@@ -43,7 +43,8 @@ def placed(lines, boards, count):
     for t in range(count):
         row = Placed(*numbers(lines, 1 + t, "N N N N", f"step {t}: its number, board, start and finish"))
         if row.step != t or row.board >= boards or row.start >= row.finish:
-            raise Trouble(f"this is no plan's listing: line {t + 2} should be step {t} on a board below {boards}, with a start below its finish")
+            raise Trouble(f"this is no plan's listing: line {t + 2} should be step {t} on a board below {boards}, "
+                          "with a start below its finish")
         steps.append(row)
     return steps
 
