@@ -249,10 +249,10 @@ fn rising() -> Vec<u8> {
     .file()
 }
 
-/// The job for which the cover call takes longest beside the planner's call that is known.
+/// Of the families the one in which the cover call takes longest beside the planner's call; jobs are known for which it takes longer.
 ///
 /// As many edges as a job can have, among as few tasks as can have them. These run one after the other on one processor, as a message
-/// to another takes time: so the planner looks at one pair to place a task, and for each edge the least cover looks at the 15
+/// to another takes time: so the planner looks at one pair to place a task, and for each edge the least cover could look at the 15
 /// processors that are idle, one by one, where the planner raised 16 arrivals, several at once.
 fn linked() -> Vec<u8> {
     let tasks = 46;
