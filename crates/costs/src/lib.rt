@@ -1,7 +1,7 @@
 // Link costs (document 01, "Link costs"; document 02, §1 and §5): what one message takes from each processor to each other, as a square.
 // The call asks nothing of its caller: of more processors than sixteen the first sixteen have a place in the square.
 ghost use Rattle.std.specs.Prelude.{◌≡◌, ◌≤◌, ◌<◌};
-ghost use Rattle.etf.specs.Topology.{hypercube_hops, ring_hops, hops as hops_of, cost as cost_of, square as squareOf};
+ghost use Rattle.etf.specs.Topology.{hypercube_hops, ring_hops, hops as hops_of, cost as cost_of, square as square_of};
 ghost use Rattle.costs.specs.Wires.{loaded};
 
 use job::Platform;
@@ -60,7 +60,7 @@ fn cost(platform: Platform, wires: &[u8; 256], p: usize, q: usize) -> u32
 
 // The costs as a square of sixteen rows of sixteen, 0 where a processor is absent.
 pub fn square(platform: Platform, wires: &[u8; 256]) -> [[u32; 16]; 16]
-    ensures { result ≡ squareOf platform.processors (cost_of platform (loaded wires.now)) }
+    ensures { result ≡ square_of platform.processors (cost_of platform (loaded wires.now)) }
 {
     let n = base::least(base::index(platform.processors), 16);
     let mut costs = [[0u32; 16]; 16];

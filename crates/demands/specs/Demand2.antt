@@ -37,7 +37,7 @@ use Rattle.schedule.specs.Plan.{end_by, outcome_by, plan_call_by, plan_call, wei
 use Rattle.schedule.specs.Small.{small_call}
 use Rattle.schedule.specs.SmallPlan.{same_plan, larger_scratch, as_larger, scratch_zero, small_accepted}
 use Rattle.schedule.specs.Cover.{cover_call_by, cover_call, weight_cover_call}
-use Rattle.schedule.specs.Cover.{figures as figuresOf}
+use Rattle.schedule.specs.Cover.{figures as figures_of}
 use Rattle.schedule.specs.Check.{check_call}
 use Rattle.schedule.specs.OwnPlan.{slices_accepted}
 use Rattle.kelvrist.specs.PlanBytes.{processor_in, start_in, plan_bytes_call_by, plan_bytes_call, weight_bytes_call, check_bytes_call}
@@ -181,7 +181,7 @@ pub record ByTheWalk (by : Job → Instance) (file : List ℕ) (C D : ℕ) : Typ
 
 pub cover_by_the_walk : {by : Job → Instance} → TieRule by → (file starts processors scratch : List ℕ) (f : Figures)
     → (cover_call_by by file starts processors scratch).answer ≡ Cover f → ByTheWalk by file f.cover f.dearest
-unfolding figuresOf
+unfolding figures_of
 cover_by_the_walk {by} rule file starts processors scratch f h =
     let Q = covered_as by file starts processors scratch f h in
     let reported = figures_is by file starts processors scratch Q in
@@ -234,7 +234,7 @@ pub record TheLeast (by : Job → Instance) (file : List ℕ) (L C D : ℕ) : Ty
 
 pub least_by_the_walks : {by : Job → Instance} → TieRule by → (file starts processors scratch : List ℕ) (f : Figures)
     → (cover_call_by by file starts processors scratch).answer ≡ Cover f → TheLeast by file f.least f.cover f.dearest
-unfolding figuresOf
+unfolding figures_of
 least_by_the_walks {by} rule file starts processors scratch f h =
     let Q = covered_as by file starts processors scratch f h in
     let I = by Q.job in

@@ -38,3 +38,4 @@ pub count_is : (rs : List Result) (r : Result) → RiseByTask rs → r ∈ rs �
 count_is (s ∷ rs) r up (here e) = own_count s rs r.task (ap (λ (x : Result). x.task) (sym e)) ∙ ap (λ (x : Result). x.count) (sym e)
 count_is (s ∷ rs) r up (there h) =
     other_count s rs r.task (λ e. absurd (omega (arith, up.0 r h))) ∙ count_is rs r up.1 h
+count_is [] r up h = elim h [ ]

@@ -10,7 +10,7 @@ ghost use Rattle.job.specs.Write.{held_job, gathered, WrittenAs};
 ghost use Rattle.job.specs.Pass.{nothing_found, Filling};
 
 // Processors n, topology (0 complete, 1 hypercube, 2 ring, 3 by its wires) and unit cost c (01: the rack).
-#[derive(Drop)]
+#[derive(Clone, Copy)]
 pub struct Platform {
     pub processors: u8,
     pub topology: u8,
@@ -18,7 +18,7 @@ pub struct Platform {
 }
 
 // What reading a file finds: the counts of tasks and edges, or the refusal's number.
-#[derive(Drop)]
+#[derive(Clone, Copy)]
 pub enum Verdict {
     Counts { tasks: usize, edges: usize },
     Refused(u8),

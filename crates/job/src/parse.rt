@@ -1,7 +1,7 @@
 // The reader's parts: one record, or a pass over one kind of record, from a place of the file to the place after it.
 ghost use Rattle.std.specs.Prelude.{◌≡◌, ◌≤◌, ◌<◌, [], T as Holds, length, get_or, replicate};
 ghost use Rattle.std.proofs.Math.Option.{some};
-ghost use Rattle.job.specs.Record.{step as isStep, link as isLink, wire as isWire, result as isResult, kind_of, platform_in_range};
+ghost use Rattle.job.specs.Record.{step as is_step, link as is_link, wire as is_wire, result as is_result, kind_of, platform_in_range};
 ghost use Rattle.job.specs.Read.{wire_array, result_array};
 ghost use Rattle.job.specs.Pass.{StandsThere, misplaced_number, RackPassed, OnPair, WirePassed, EarlyPassed, WiresPassed};
 ghost use Rattle.job.specs.Pass.{StepPassed, StepsPassed, LinkPassed, ResultPassed, ResultsPassed, EndPassed};
@@ -138,7 +138,7 @@ pub fn rack(file: &[u8]) -> FoundRack
 
 // The step at `at`, after `tasks` steps.
 fn step(file: &[u8], at: usize, tasks: usize) -> FoundStep
-    requires { (at < length file.now) × (kind_of (get_or file.now at 0) ≡ some isStep) × (tasks ≤ 256) }
+    requires { (at < length file.now) × (kind_of (get_or file.now at 0) ≡ some is_step) × (tasks ≤ 256) }
     ensures { StepPassed file.now at tasks result }
 {
     if tasks == 256 {
@@ -165,7 +165,7 @@ fn step(file: &[u8], at: usize, tasks: usize) -> FoundStep
 
 // The wire at `at`, where `due` is the next pair due.
 fn wire(file: &[u8], at: usize, n: u8, due: Pair) -> FoundWire
-    requires { (at < length file.now) × (kind_of (get_or file.now at 0) ≡ some isWire) × OnPair n due.from due.to }
+    requires { (at < length file.now) × (kind_of (get_or file.now at 0) ≡ some is_wire) × OnPair n due.from due.to }
     ensures { WirePassed file.now at n due result }
 {
     if file.len() - at < 4 {
@@ -283,7 +283,7 @@ pub fn steps(file: &[u8], start: usize, durations: &mut [u32; 256]) -> Pass
 
 // The link at `at`, after `tasks` steps and `edges` links; `least` is the least key above the last of these.
 pub fn link(file: &[u8], at: usize, tasks: usize, edges: usize, least: u32) -> FoundLink
-    requires { (at < length file.now) × (kind_of (get_or file.now at 0) ≡ some isLink) × (edges ≤ 1024) }
+    requires { (at < length file.now) × (kind_of (get_or file.now at 0) ≡ some is_link) × (edges ≤ 1024) }
     ensures { LinkPassed file.now at tasks edges least result }
 {
     if edges == 1024 {
@@ -322,7 +322,7 @@ pub fn link(file: &[u8], at: usize, tasks: usize, edges: usize, least: u32) -> F
 // The result at `at`, after `tasks` steps, of which `sent` says which have a successor; `least` is the least task above that of the last
 // result.
 fn result(file: &[u8], at: usize, tasks: usize, least: usize, sent: &[bool; 256]) -> FoundResult
-    requires { (at < length file.now) × (kind_of (get_or file.now at 0) ≡ some isResult) }
+    requires { (at < length file.now) × (kind_of (get_or file.now at 0) ≡ some is_result) }
     ensures { ResultPassed file.now at tasks least sent.now result }
 {
     if file.len() - at < 4 {

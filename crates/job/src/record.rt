@@ -9,7 +9,7 @@ ghost use Rattle.job.specs.Pass.{delivery_trouble, result_trouble};
 use crate::Platform;
 
 // A pair of processors, or past the last one: then `from` is their number n.
-#[derive(Drop)]
+#[derive(Clone, Copy)]
 pub struct Pair {
     pub from: u8,
     pub to: u8,

@@ -3,7 +3,7 @@ mod put;
 
 ghost use Rattle.std.specs.Prelude.{◌≡◌, ℕ, ◌+◌, ◌*◌, ◌≤◌, ◌<◌, length, get_or};
 ghost use Rattle.base.specs.Slices.{Put};
-ghost use Rattle.listing.specs.Listing.{header as headerOf, task_line, task_lines, figures as figuresOf, refusal_line};
+ghost use Rattle.listing.specs.Listing.{header as header_of, task_line, task_lines, figures as figures_of, refusal_line};
 ghost use Rattle.listing.specs.Listing.{listed, put_first, listing_call};
 ghost use Rattle.listing.specs.Pass.{end_in, figures_in};
 
@@ -37,7 +37,7 @@ fn figures_in(covered: Covered) -> Figures
 // The first line.
 fn header(out: &mut [u8], processors: u8, tasks: usize, edges: usize) -> usize
     requires { (tasks ≤ 256) × (edges ≤ 1024) × (38 ≤ length out.old) }
-    ensures put { Put out.old out.new 0 result (headerOf processors tasks edges) }
+    ensures put { Put out.old out.new 0 result (header_of processors tasks edges) }
     ensures upper_bound { result ≤ 38 }
 {
     let first = put::word(out, 0, b"plan ");
@@ -96,7 +96,7 @@ fn lines<'a>(
 fn figures(out: &mut [u8], at: usize, end: u32, reported: Figures) -> usize
     requires { at + 68 ≤ length out.old }
     ensures put { Put out.old out.new at result
-        (figuresOf end reported.cover reported.least reported.dearest) }
+        (figures_of end reported.cover reported.least reported.dearest) }
     ensures upper_bound { result ≤ at + 68 }
 {
     let second = put::line(out, at, b"end ", end);

@@ -1,7 +1,7 @@
 // The dearest chain (document 01, "The cover C").
 ghost use Rattle.std.specs.Prelude.{◌≡◌, [], ℕ, ◌*◌, ◌≤◌, ◌<◌, length, get_or};
 ghost use Rattle.base.specs.Rows.{most as most_of};
-ghost use Rattle.etf.specs.Dearest.{dearest as dearestOf};
+ghost use Rattle.etf.specs.Dearest.{dearest as dearest_of};
 ghost use Rattle.etf.specs.Bounds.{most_message_time};
 ghost use Rattle.schedule.specs.InArrays.{in_number_order, instance_in, Plannable};
 ghost use Rattle.schedule.specs.CoverPass.{greatest_in, dearest_in};
@@ -81,7 +81,7 @@ pub fn dearest<'a>(
 ) -> u32
     requires plannable { Plannable (in_number_order n tasks edges durations.now from.now to.now counts.now costs) }
     requires cost_value { cost ≡ greatest_in costs n }
-    ensures { result ≡ dearestOf (instance_in
+    ensures { result ≡ dearest_of (instance_in
         (in_number_order n tasks edges durations.now from.now to.now counts.now costs)) }
 {
     sum(edges, from, to, counts, cost)

@@ -6,7 +6,7 @@
 // Ticks are never counted.
 ghost use Rattle.std.specs.Prelude.{◌≡◌, [], ℕ, ◌+◌, ◌*◌, ◌^◌, ◌≤◌, ◌<◌, length, get_or};
 ghost use Rattle.graph.specs.Graph.{edges_to};
-ghost use Rattle.etf.specs.Least.{least as leastOf};
+ghost use Rattle.etf.specs.Least.{least as least_of};
 ghost use Rattle.job.specs.Limits.{most_duration};
 ghost use Rattle.etf.specs.Checker.{latest_start};
 ghost use Rattle.etf.specs.Bounds.{most_finish, most_message_time, most_chain};
@@ -243,7 +243,7 @@ pub fn least<'a>(
     requires most_value { most ≡ greatest_in costs n }
     ensures { (order : ℕ → ℕ) → HoldsIn
         (in_number_order n tasks edges durations.now from.now to.now counts.now costs)
-        starts.now processors.now order → result ≡ leastOf (instance_in (reordered order
+        starts.now processors.now order → result ≡ least_of (instance_in (reordered order
         (in_number_order n tasks edges durations.now from.now to.now counts.now costs))) }
 {
     let mut near = [0u32; 16];

@@ -37,6 +37,7 @@ pub any_of : {A : Type 0} (p : A → Bool) (l : List A) (a : A) → a ∈ l → 
 unfolding any
 any_of p (x ∷ xs) a (here e) t = or_left (p x) (any p xs) (subst (λ b. Holds (p b)) e t)
 any_of p (x ∷ xs) a (there h) t = or_right (p x) (any p xs) (any_of p xs a h t)
+any_of p [] a h t = elim h [ ]
 
 pub any_one : {A : Type 0} (p : A → Bool) (l : List A) → Holds (any p l) → (a : A) × (a ∈ l) × Holds (p a)
 unfolding any
@@ -81,6 +82,7 @@ filter_in p (x ∷ xs) a (there h) t = go (p x) (filter_in p xs a h t)
     go : (b : Bool) → a ∈ filter p xs → a ∈ pick b (x ∷ filter p xs) (filter p xs)
     go true k = there k
     go false k = k
+filter_in p [] a h t = elim h [ ]
 
 pub filter_of : {A : Type 0} (p : A → Bool) (l : List A) (a : A) → a ∈ filter p l → (a ∈ l) × Holds (p a)
 unfolding filter
@@ -97,6 +99,7 @@ pub greatest_ge : {A : Type 0} (f : A → ℕ) (l : List A) (a : A) → a ∈ l 
 unfolding greatest
 greatest_ge f (x ∷ xs) a (here e) = omega (arith, ap f e)
 greatest_ge f (x ∷ xs) a (there h) = omega (arith, greatest_ge f xs a h)
+greatest_ge f [] a h = elim h [ ]
 
 pub greatest_at : {A : Type 0} (f : A → ℕ) (l : List A) (t : ℕ) → t < greatest f l → (a : A) × (a ∈ l) × (t < f a)
 unfolding greatest
@@ -126,6 +129,7 @@ unfolding smallest
 smallest_le f (x ∷ []) a h = for_cons (λ b. f x ≤ f b) (omega arith) (λ b k. absurd (in_nothing k)) a h
 smallest_le f (x ∷ (y ∷ l)) a h =
     for_cons (λ b. min (f x) (smallest f (y ∷ l)) ≤ f b) (omega arith) (λ b k. omega (arith, smallest_le f (y ∷ l) b k)) a h
+smallest_le f [] a h = elim h [ ]
 
 -- and one member's is this one
 pub smallest_at : {A : Type 0} (f : A → ℕ) (x : A) (l : List A) → (a : A) × (a ∈ (x ∷ l)) × (smallest f (x ∷ l) ≡ f a)
@@ -183,6 +187,7 @@ pub flat_map_in : {A B : Type 0} (f : A → List B) (l : List A) (a : A) (b : B)
 unfolding flat_map
 flat_map_in f (x ∷ xs) a b (here e) k = in_left (flat_map f xs) (subst (λ c. b ∈ f c) e k)
 flat_map_in f (x ∷ xs) a b (there h) k = in_right (f x) (flat_map_in f xs a b h k)
+flat_map_in f [] a b h k = elim h [ ]
 
 pub flat_map_of : {A B : Type 0} (f : A → List B) (l : List A) (b : B) → b ∈ flat_map f l → (a : A) × (a ∈ l) × (b ∈ f a)
 unfolding flat_map
@@ -194,6 +199,7 @@ flat_map_of {A} f (x ∷ xs) b h =
 pub map_in : {A B : Type 0} (f : A → B) (l : List A) (a : A) → a ∈ l → f a ∈ map f l
 map_in f (x ∷ xs) a (here e) = here (ap f e)
 map_in f (x ∷ xs) a (there h) = there (map_in f xs a h)
+map_in f [] a h = elim h [ ]
 
 pub map_of : {A B : Type 0} (f : A → B) (l : List A) (b : B) → b ∈ map f l → (a : A) × (a ∈ l) × (b ≡ f a)
 map_of f [] b h = absurd (in_nothing h)
@@ -242,6 +248,7 @@ map-upto-length f n = length-map (upto n) f ∙ length-upto n
 pub place : {A : Type 0} (d : A) (l : List A) (a : A) → a ∈ l → (i : ℕ) × (i < length l) × (get_or l i d ≡ a)
 place d (x ∷ xs) a (here e) = (0, omega arith, sym e)
 place d (x ∷ xs) a (there h) = let z = place d xs a h in (suc z.0, omega (arith, z.1), z.2)
+place d [] a h = elim h [ ]
 
 -- and what stands at a place is a member
 pub at_in : {A : Type 0} (d : A) (l : List A) (i : ℕ) → i < length l → get_or l i d ∈ l

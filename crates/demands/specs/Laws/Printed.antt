@@ -19,7 +19,7 @@ use Rattle.schedule.specs.declared.Figures.{Figures}
 use Rattle.schedule.specs.Call.{start_of, processor_of}
 use Rattle.schedule.specs.Plan.{outcome_by, plan_call}
 use Rattle.schedule.specs.Cover.{cover_call}
-use Rattle.schedule.specs.Cover.{figures as figuresOf}
+use Rattle.schedule.specs.Cover.{figures as figures_of}
 use Rattle.listing.specs.Listing.{refusal_line, header, task_lines, figures, plan_listing, listing_for, listing}
 use Rattle.listing.specs.Laws.Listed.{header_same, lines_same, listing_same}
 use Rattle.schedule.specs.Answered.{one_job}
@@ -48,15 +48,15 @@ module _ (file starts processors scratch : List ℕ) (o : Outcome) (p : (plan_ca
       → (j : Job) × (read_job file ≡ accepted j)
       × (listing file ≡ header j.platform.processors o.tasks (length j.edges)
       ++ (task_lines o.tasks processor start (λ T. get_or j.tasks T 0) ++ figures o.end f.cover f.least f.dearest))
-  unfolding listing listing_for plan_listing instance duration start_of processor_of outcome_by figuresOf
+  unfolding listing listing_for plan_listing instance duration start_of processor_of outcome_by figures_of
   prints_calls starts₂ processors₂ scratch₂ f c =
       let P = planned_as instance file starts processors scratch o p in
       let Q = covered_as instance file starts₂ processors₂ scratch₂ f c in
       let j = P.job in
       let planned_so = outcome_is instance file starts processors scratch P in
       let covered_so = figures_is instance file starts₂ processors₂ scratch₂ Q in
-      let same : figuresOf (instance Q.job) ≡ figuresOf (instance j) =
-      ap (λ (i : Job). figuresOf (instance i)) (one_job Q.says P.says) in
+      let same : figures_of (instance Q.job) ≡ figures_of (instance j) =
+      ap (λ (i : Job). figures_of (instance i)) (one_job Q.says P.says) in
       let m-is : o.tasks ≡ length j.tasks = ap (λ (x : Outcome). x.tasks) planned_so in
       let first : header j.platform.processors o.tasks (length j.edges)
       ≡ header j.platform.processors (length j.tasks) (length j.edges) = header_same refl m-is refl in

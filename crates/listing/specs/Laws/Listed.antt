@@ -30,7 +30,7 @@ use Rattle.schedule.specs.declared.Covered.{Covered}
 use Rattle.schedule.specs.declared.Covered.TheVariants.{Cover, Refused as NotCovered}
 use Rattle.schedule.specs.Call.{called, start_of, processor_of, arrival_places}
 use Rattle.schedule.specs.Plan.{end_of, outcome, outcome_by, plan_call, plan_call_by}
-use Rattle.schedule.specs.Cover.{figures as figuresOf, cover_call, cover_call_by}
+use Rattle.schedule.specs.Cover.{figures as figures_of, cover_call, cover_call_by}
 use Rattle.listing.specs.Listing.{line, header, task_lines, figures, plan_listing, refusal_line, listing_for, listing}
 use Rattle.listing.specs.Listing.{ListingCall, listed, put_first, listing_call}
 use Rattle.listing.specs.Printed.{refused_text}
@@ -131,9 +131,9 @@ module _ (file : List ℕ) {x : Reading} {m l : ℕ} (e : x ≡ reading_of (read
     by_planner =
         lays_out NotPlanned (λ j. Plan (outcome j)) file job says (record { for_starts = a; for_processors = b; for_arrivals = d }) plans
 
-    by_cover : LaidOut (λ j. Cover (figuresOf (instance j))) job c s p t
+    by_cover : LaidOut (λ j. Cover (figures_of (instance j))) job c s p t
     unfolding cover_call_by
-    by_cover = lays_out NotCovered (λ j. Cover (figuresOf (instance j))) file job says by_planner.room covers
+    by_cover = lays_out NotCovered (λ j. Cover (figures_of (instance j))) file job says by_planner.room covers
 
     -- the arrays that the lines are read from are long enough
     pub arrays_reach : (m ≤ length x.arrays.durations) × (m ≤ length s) × (m ≤ length p)
@@ -147,7 +147,7 @@ module _ (file : List ℕ) {x : Reading} {m l : ℕ} (e : x ≡ reading_of (read
     unfolding outcome_by
     end_is = ap end_in by_planner.answer_is
 
-    figures_are : figures_in c ≡ figuresOf I
+    figures_are : figures_in c ≡ figures_of I
     figures_are = ap figures_in by_cover.answer_is
 
     -- a finish has 32 bits
@@ -174,7 +174,7 @@ module _ (file : List ℕ) {x : Reading} {m l : ℕ} (e : x ≡ reading_of (read
         → Put o₁ o₂ i j (task_lines m (λ T. get_or p T 0) (λ T. get_or s T 0) (λ T. get_or x.arrays.durations T 0))
         → Put o₂ o₃ j k (figures E f.cover f.least f.dearest)
         → E ≡ end_in q → f ≡ figures_in c → k ≤ length out → listed k o₃ ≡ listing_call file out
-    unfolding listing_call listing listing_for plan_listing figuresOf
+    unfolding listing_call listing listing_for plan_listing figures_of
     plan_listed {out = out} E f first second third e-is f-is fits =
         put_front (put_then first (put_then second third)) fits
         ∙ ap (λ (s : List ℕ). put_first s out)

@@ -17,7 +17,7 @@ use Rattle.base.specs.Laws.Values.{map-values, for_values}
 use Rattle.etf.specs.Instance.{Instance, tasks}
 use Rattle.etf.specs.Schedule.{Placement, arrival}
 use Rattle.etf.specs.Rule.{ready, pair, pairs, choice}
-use Rattle.etf.specs.Rule.{free as isFree}
+use Rattle.etf.specs.Rule.{free as is_free}
 use Rattle.schedule.specs.declared.planner.Pair.{Pair}
 use Rattle.schedule.specs.Pass.{never, no_pair, pair_at, first_best, row_of, can_start, searched}
 use Rattle.schedule.specs.Laws.Planner.Simulation.{pair_of}
@@ -125,19 +125,19 @@ module _ (cm : ℕ) (waiting latest : List ℕ) (order : ℕ → ℕ) (row : ℕ
 module _ (I : Instance) (cm : ℕ) (ps : List Placement) where
   -- task T on each free processor
   unfoldable row_free : ℕ → List Placement
-  row_free T = map (pair I cm ps T) (filter (isFree I cm ps) (upto I.processors))
+  row_free T = map (pair I cm ps T) (filter (is_free I cm ps) (upto I.processors))
 
   row_is : (arrivals free : List ℕ) (k T : ℕ)
-      → values (λ i. get_or free i 0) 0 k ≡ filter (isFree I cm ps) (upto I.processors)
+      → values (λ i. get_or free i 0) 0 k ≡ filter (is_free I cm ps) (upto I.processors)
       → ((P : ℕ) → P < I.processors → get_or arrivals (16 * T + P) 0 ≡ arrival I ps T P)
       → row_of cm arrivals free k T ≡ map as_pair (row_free T)
   unfolding row_of pair_at pair row_free
   row_is arrivals free k T listed arrived =
       sym (map-values (pair_at cm arrivals T) (λ i. get_or free i 0) 0 k)
       ∙ ap (map (pair_at cm arrivals T)) listed
-      ∙ map_same (pair_at cm arrivals T) (λ P. as_pair (pair I cm ps T P)) (filter (isFree I cm ps) (upto I.processors))
-      (λ P h. rw (arrived P (upto_of I.processors P (filter_of (isFree I cm ps) (upto I.processors) P h).0)))
-      ∙ sym (map-map as_pair (pair I cm ps T) (filter (isFree I cm ps) (upto I.processors)))
+      ∙ map_same (pair_at cm arrivals T) (λ P. as_pair (pair I cm ps T P)) (filter (is_free I cm ps) (upto I.processors))
+      (λ P h. rw (arrived P (upto_of I.processors P (filter_of (is_free I cm ps) (upto I.processors) P h).0)))
+      ∙ sym (map-map as_pair (pair I cm ps T) (filter (is_free I cm ps) (upto I.processors)))
 
   -- of a task that stands in the order, and could start before `never` on each processor where it is ready
   module _ (m : ℕ) (order : ℕ → ℕ) (by : I.order ≡ values order 0 m) (within : (i : ℕ) → i < m → order i < tasks I)
@@ -146,11 +146,11 @@ module _ (I : Instance) (cm : ℕ) (ps : List Placement) where
     pair_soon : (u : Placement) → u ∈ pairs I cm ps → u.start < never
     unfolding pairs pair
     pair_soon u h =
-        let g = flat_map_of (λ T. map (pair I cm ps T) (filter (isFree I cm ps) (upto I.processors)))
+        let g = flat_map_of (λ T. map (pair I cm ps T) (filter (is_free I cm ps) (upto I.processors)))
         (filter (ready I cm ps) I.order) u h in
         let r = filter_of (ready I cm ps) I.order g.0 g.1 in
-        let p = map_of (pair I cm ps g.0) (filter (isFree I cm ps) (upto I.processors)) u g.2 in
-        let f = filter_of (isFree I cm ps) (upto I.processors) p.0 p.1 in
+        let p = map_of (pair I cm ps g.0) (filter (is_free I cm ps) (upto I.processors)) u g.2 in
+        let f = filter_of (is_free I cm ps) (upto I.processors) p.0 p.1 in
         let below = for_values order (λ T. T < tasks I) 0 m (λ i a b. within i (omega arith)) g.0 (subst (λ l. g.0 ∈ l) by r.0) in
         omega (arith, ap (λ (v : Placement). v.start) p.2, soon g.0 p.0 below r.1 (upto_of I.processors p.0 f.0))
 
@@ -167,7 +167,7 @@ module _ (I : Instance) (cm : ℕ) (ps : List Placement) where
     pub search_is : (waiting latest arrivals free : List ℕ) (k low : ℕ) → low ≤ m
         → ((i : ℕ) → i < low → Holds (not (ready I cm ps (order i))))
         → ((T : ℕ) → T < tasks I → can_start cm waiting latest T ≡ ready I cm ps T)
-        → values (λ i. get_or free i 0) 0 k ≡ filter (isFree I cm ps) (upto I.processors)
+        → values (λ i. get_or free i 0) 0 k ≡ filter (is_free I cm ps) (upto I.processors)
         → ((T P : ℕ) → T < tasks I → Holds (ready I cm ps T) → P < I.processors → get_or arrivals (16 * T + P) 0 ≡ arrival I ps T P)
         → searched cm waiting latest order (row_of cm arrivals free k) low (m - low) no_pair ≡ pair_of (choice I cm ps)
     unfolding choice pairs row_free

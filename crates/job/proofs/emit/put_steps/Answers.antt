@@ -1,0 +1,30 @@
+-- `emit::put_steps`: the steps put so far are those of the first tasks, and there is room for the others.
+use mathlib.Core.List.{List}
+use Prim.Native.Nat.{ℕ, ◌+◌, ◌-◌, ◌≤◌, ◌<◌}
+use native.Mathlib.Omega.{arith}
+use borrow.Author.Rules.{rules}
+use lib.ListN.{length}
+use Rattle.job.specs.Write.{step_bytes}
+use Rattle.job.specs.Laws.Sizes.{step_size}
+use Rattle.job.specs.Laws.Putting.{Putting, putting_none, putting_room, putting_more, putting_done}
+use Rattle.job.proofs.emit.put_steps.Goals as goal
+
+room : {f : ℕ → ℕ} {m i : ℕ} {out₀ out : List ℕ} {start at : ℕ} → Putting step_bytes f m i out₀ out start at → i < m → at + 5 ≤ length out
+room {f} {m} {i} p h = omega (arith, putting_room step_bytes f m p h, step_size (f i))
+
+pub loop-i-init : goal.loop-i-init
+loop-i-init c =
+    (search rules, putting_none _ _ _ _ _ c.requires.tasks_in_bounds)
+
+pub put_step-at-requires : goal.put_step-at-requires
+put_step-at-requires c =
+    room c.loop-i.invariant.1 c.loop-i-test.true
+
+pub loop-i-preserved : goal.loop-i-preserved
+loop-i-preserved c =
+    let g = c.loop-i.invariant in
+    (g.0, putting_more _ _ _ g.1 c.loop-i-test.true c.put_step-at.auto.out c.put_step-at.ensures)
+
+pub returns : goal.returns
+returns c =
+    putting_done _ _ _ c.loop-i.invariant.1 c.loop-i-test.false
