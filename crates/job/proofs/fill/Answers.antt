@@ -12,7 +12,7 @@ use Rattle.job.specs.Read.{padded, arrays_of}
 use Rattle.job.specs.Laws.Taking.{refuse_lent, after-wires, after-steps, begun, bad, on, undelivered, Ready}
 use Rattle.job.specs.Laws.Taking.{with, after-results, taken, untaken, accept_lent}
 use Rattle.job.proofs.fill.Goals as goal
-use Rattle.job.proofs.fill.Goals.{Joined-stands}
+use Rattle.job.proofs.fill.Goals.{Joined-stands, then-stands+else-delivered-ne0, else-stands}
 
 -- after the results, if there are any
 -- after the results, if there are any
@@ -21,10 +21,10 @@ at-end : (c : Joined-stands) →
 at-end c =
     let g = c.loop-link.invariant in
     let no-link = c.stands.ensures.no (when_false c.loop-link-test.false) in
-    ⊎_elim
-    (λ w. rw (w.8, w.9) (taken g w.2.ensures w.5.ensures w.7.false no-link))
-    (λ w. rw (w.1, w.2) (untaken g (c.stands-2.ensures.no (when_false w.0.false)) no-link))
-    c.if-stands.branch
+    elim c.if-stands.branch [
+      then-stands+else-delivered-ne0 w ↦ rw (w.results-is, w.next-is) (taken g w.senders-sent.ensures w.results-delivered.ensures w.if-delivered-ne0.false no-link)
+      | else-stands w ↦ rw (w.results-is, w.next-is) (untaken g (c.stands-2.ensures.no (when_false w.if-stands.false)) no-link)
+    ]
 
 pub returns-then-rack-ne0 : goal.returns-then-rack-ne0
 returns-then-rack-ne0 c =

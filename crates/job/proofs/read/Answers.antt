@@ -13,17 +13,17 @@ use Rattle.job.specs.Laws.Judged.{passes}
 use Rattle.job.specs.Laws.Taking.{refuse, after-wires, after-steps, begun, bad, on, undelivered, Ready}
 use Rattle.job.specs.Laws.Taking.{after-results, taken, untaken}
 use Rattle.job.proofs.read.Goals as goal
-use Rattle.job.proofs.read.Goals.{Joined-stands}
+use Rattle.job.proofs.read.Goals.{Joined-stands, then-stands+else-results-ne0, else-stands}
 
 -- after the results, if there are any
 at-end : (c : Joined-stands) → Ready c.loop-link.invariant c.if-stands.arrays c.if-stands.next
 at-end c =
     let g = c.loop-link.invariant in
     let no-link = c.stands.ensures.no (when_false c.loop-link-test.false) in
-    ⊎_elim
-    (λ w. rw (w.9, w.10) (taken g w.3.ensures w.6.ensures w.8.false no-link))
-    (λ w. rw (w.1, w.2) (untaken g (c.stands-2.ensures.no (when_false w.0.false)) no-link))
-    c.if-stands.branch
+    elim c.if-stands.branch [
+      then-stands+else-results-ne0 w ↦ rw (w.arrays-is, w.next-is) (taken g w.senders-sent.ensures w.results-results.ensures w.if-results-ne0.false no-link)
+      | else-stands w ↦ rw (w.arrays-is, w.next-is) (untaken g (c.stands-2.ensures.no (when_false w.if-stands.false)) no-link)
+    ]
 
 pub returns-then-rack-ne0 : goal.returns-then-rack-ne0
 returns-then-rack-ne0 c =

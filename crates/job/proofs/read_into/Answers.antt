@@ -24,8 +24,8 @@ fill-found-requires c =
 
 pub returns-in_default : goal.returns-in_default
 returns-in_default c =
-    refuses c.fill-found.ensures c.enum_told-in_default-1.given.1 _ c.forget-in_default.ensures
+    refuses c.fill-found.ensures c.in_default.is _ c.forget-in_default.ensures
 
 pub returns : goal.returns
 returns c =
-    accepts c.fill-found.ensures c.enum_told-1.given.1
+    accepts c.fill-found.ensures c.in-Counts.is

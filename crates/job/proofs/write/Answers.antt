@@ -108,11 +108,11 @@ returns-then-out-file_length c =
 
 pub put_job-length-requires : goal.put_job-length-requires
 put_job-length-requires c =
-    let many = c.result_count-many.ensures.0 in record { holds = (c.job_trouble-number.ensures.1 (omega (arith, c.if-number-gt0.false)), c.if-tasks-gt256.false, c.if-edges-gt1024.false, many); results_in_bounds = held_room _ _ _ _ _ _ c.file_length.ensures many c.if-out-file_length.false }
+    let many = c.result_count-many.ensures.0 in record { holds = (c.job_trouble-number.ensures.holds (omega (arith, c.if-number-gt0.false)), c.if-tasks-gt256.false, c.if-edges-gt1024.false, many); results_in_bounds = held_room _ _ _ _ _ _ c.file_length.ensures many c.if-out-file_length.false }
 
 pub returns : goal.returns
 returns c =
-    wrote _ _ _ _ c.if-tasks-gt256.false c.if-edges-gt1024.false c.job_trouble-number.result c.job_trouble-number.ensures.0
+    wrote _ _ _ _ c.if-tasks-gt256.false c.if-edges-gt1024.false c.job_trouble-number.result c.job_trouble-number.ensures.met
     (omega (arith, c.if-number-gt0.false)) _
     (held_size _ _ _ _ _ _ c.file_length.ensures c.result_count-many.ensures.0) c.if-out-file_length.false _ _
     c.put_job-length.ensures

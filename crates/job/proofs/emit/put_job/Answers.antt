@@ -13,7 +13,7 @@ use Rattle.job.specs.Record.{wire_pairs}
 use Rattle.job.specs.Write.{rack_bytes, wire_bytes, step_bytes, link_bytes, result_bytes, file_of}
 use Rattle.job.specs.Write.{edge_held, wire_held, results_held, held_job, gathered}
 use Rattle.job.proofs.emit.put_job.Goals as goal
-use Rattle.job.proofs.emit.put_job.Goals.{After-put4-wires, After-put_links-delivered, After-put_results-end, After-put_steps-links, After-put_wires-steps, Start}
+use Rattle.job.proofs.emit.put_job.Goals.{After-put_results-end}
 
 -- parts one after the other, and the end record
 ended : List (List ℕ) → List ℕ
@@ -73,68 +73,58 @@ module _ (p : Platform) (m l : ℕ) (a : Arrays) where
   unfolding file_of held_job rack_bytes ended
   begin out fits = record { so_far = []; parts = refl; put = put_none out 0; long = refl; fits = fits }
 
--- all but the first k parts of the file are left, at a place of the code
-abbrev Left : tie.Start → ℕ → List ℕ → ℕ → Type 0
-Left s k out at =
-    let x = s.args in
-    let a = gathered x.durations.now x.from.now x.to.now x.counts.now x.costs.now x.results.now in
-    let file = file_of (held_job x.platform x.tasks x.edges a) in
-    Going file x.out.now out at (drop k (parts_of x.platform x.tasks x.edges a))
-
-at_first : (s : Start) → Left s 0 s.args.out.now 0
-at_first s = begin _ _ _ _ _ s.requires.results_in_bounds
-
-after-rack : (w : After-put4-wires) → Left w.before.before.before 1 w.put4-wires.new.out w.put4-wires.result
-after-rack w = next (at_first w.before.before.before) w.put4-wires.ensures w.put4-wires.auto.out
-
-after-wires : (w : After-put_wires-steps) → Left w.before.before.before.before.before.before.before 2 w.put_wires-steps.new.out w.put_wires-steps.result
-after-wires w = next (after-rack w.before.before.before.before) w.put_wires-steps.ensures w.put_wires-steps.auto.out
-
-after-steps : (w : After-put_steps-links) → Left w.before.before.before.before.before.before.before.before.before.before.before 3 w.put_steps-links.new.out w.put_steps-links.result
-after-steps w = next (after-wires w.before.before.before.before) w.put_steps-links.ensures w.put_steps-links.auto.out
-
-after-links : (w : After-put_links-delivered)
-    → Left w.before.before.before.before.before.before.before.before.before.before.before.before.before.before.before 4 w.put_links-delivered.new.out w.put_links-delivered.result
-after-links w = next (after-steps w.before.before.before.before) w.put_links-delivered.ensures w.put_links-delivered.auto.out
-
-after-results : (w : After-put_results-end)
-    → Left w.before.before.before.before.before.before.before.before.before.before.before.before.before.before.before.before.before.before.before 5 w.put_results-end.new.out w.put_results-end.result
-after-results w = next (after-links w.before.before.before.before) w.put_results-end.ensures w.put_results-end.auto.out
-
 pub put4-wires-requires : goal.put4-wires-requires
-put4-wires-requires c =
-    room (at_first (goal.at.put4-wires-requires c).Start)
+put4-wires-requires c = room (begin _ _ _ _ _ c.requires.results_in_bounds)
 
+-- after each call all but the parts put so far are left
 pub put_wires-steps-requires : goal.put_wires-steps-requires
 put_wires-steps-requires c =
-    record { holds = c.requires.holds.0; platform_in_bounds = room (after-rack (goal.at.put_wires-steps-requires c).After-put4-wires) }
+    let g = begin _ _ _ _ _ c.requires.results_in_bounds in
+    record { holds = c.requires.holds.0; platform_in_bounds = room (next g c.put4-wires.ensures c.put4-wires.auto.out) }
 
 pub put_steps-links-requires : goal.put_steps-links-requires
 put_steps-links-requires c =
-    record { tasks_bound = c.requires.holds.1; tasks_in_bounds = room (after-wires (goal.at.put_steps-links-requires c).After-put_wires-steps) }
+    let g = next (begin _ _ _ _ _ c.requires.results_in_bounds) c.put4-wires.ensures c.put4-wires.auto.out in
+    record { tasks_bound = c.requires.holds.1; tasks_in_bounds = room (next g c.put_wires-steps.ensures c.put_wires-steps.auto.out) }
 
 pub put_links-delivered-requires : goal.put_links-delivered-requires
 put_links-delivered-requires c =
-    record { edges_bound = c.requires.holds.2; edges_in_bounds = room (after-steps (goal.at.put_links-delivered-requires c).After-put_steps-links) }
+    let g = next (begin _ _ _ _ _ c.requires.results_in_bounds) c.put4-wires.ensures c.put4-wires.auto.out in
+    let h = next g c.put_wires-steps.ensures c.put_wires-steps.auto.out in
+    record { edges_bound = c.requires.holds.2; edges_in_bounds = room (next h c.put_steps-links.ensures c.put_steps-links.auto.out) }
 
 pub put_results-end-requires : goal.put_results-end-requires
 put_results-end-requires c =
-    let p = c.requires.holds in record { tasks_bound = (p.1, p.3); tasks_in_bounds = room (after-links (goal.at.put_results-end-requires c).After-put_links-delivered) }
+    let g = next (begin _ _ _ _ _ c.requires.results_in_bounds) c.put4-wires.ensures c.put4-wires.auto.out in
+    let h = next g c.put_wires-steps.ensures c.put_wires-steps.auto.out in
+    let i = next h c.put_steps-links.ensures c.put_steps-links.auto.out in
+    let p = c.requires.holds in
+    record { tasks_bound = (p.1, p.3); tasks_in_bounds = room (next i c.put_links-delivered.ensures c.put_links-delivered.auto.out) }
+
+-- all but the end record is put
+module _ (c : After-put_results-end) where
+  abbrev file : List ℕ
+  file = file_of (held_job c.args.platform c.args.tasks c.args.edges (gathered c.args.durations.now c.args.from.now c.args.to.now
+      c.args.counts.now c.args.costs.now c.args.results.now))
+
+  all_put : Going file c.args.out.now c.put_results-end.new.out c.put_results-end.result []
+  all_put =
+      let g = next (begin _ _ _ _ _ c.requires.results_in_bounds) c.put4-wires.ensures c.put4-wires.auto.out in
+      let h = next g c.put_wires-steps.ensures c.put_wires-steps.auto.out in
+      let i = next h c.put_steps-links.ensures c.put_steps-links.auto.out in
+      let j = next i c.put_links-delivered.ensures c.put_links-delivered.auto.out in
+      next j c.put_results-end.ensures c.put_results-end.auto.out
 
 pub bounds-out-end : goal.bounds-out-end
-bounds-out-end c =
-    end_room (after-results (goal.at.bounds-out-end c).After-put_results-end)
+bounds-out-end c = end_room (all_put (goal.at.bounds-out-end c).After-put_results-end)
 
 pub overflow_add-result : goal.overflow_add-result
 overflow_add-result c =
-    let g = after-results (goal.at.overflow_add-result c).After-put_results-end in
-    let good = c.well_formed in
-    record { fits = omega (arith, end_room g, g.long, good.1.1.1.1.1.1.1.1.1.1.0) }
+    let g = all_put (goal.at.overflow_add-result c).After-put_results-end in
+    record { fits = omega (arith, end_room g, g.long) }
 
 pub shape_of-out : goal.shape_of-out
-shape_of-out c =
-    simp length-set (after-results (goal.at.shape_of-out c).After-put_results-end).long
+shape_of-out c = simp length-set (all_put (goal.at.shape_of-out c).After-put_results-end).long
 
 pub returns : goal.returns
-returns c =
-    done (after-results (goal.at.returns c).After-put_results-end)
+returns c = done (all_put (goal.at.returns c).After-put_results-end)

@@ -86,7 +86,7 @@ returns-then-many-eq0 c =
 
 pub loop-t-init : goal.loop-t-init
 loop-t-init c =
-    let p = c.requires in begin _ _ _ _ p.0.0 p.1
+    begin _ _ _ _ c.requires.tasks_bound.0 c.requires.tasks_in_bounds
 
 pub put_result-at-requires : goal.put_result-at-requires
 put_result-at-requires c =
@@ -97,7 +97,7 @@ pub loop-t-preserved : goal.loop-t-preserved
 loop-t-preserved c =
     let g = c.loop-t.invariant in
     let h = c.loop-t-test.true in
-    (elim c.if-count-ne0.branch [ then-count-ne0 w ↦ turn _ _ _ _ _ _ _ g h w.if-count-ne0.true _ _ _ _ w.out-is w.at-is w.put_result-at.kept.1.1.0 w.put_result-at.ensures | else-count-ne0 w ↦ past _ _ _ _ _ _ _ g h _ _ w.out-is w.at-is w.if-count-ne0.false ])
+    (elim c.if-count-ne0.branch [ then-count-ne0 w ↦ turn _ _ _ _ _ _ _ g h w.if-count-ne0.true _ _ _ _ w.out-is w.at-is w.put_result-at.auto.out w.put_result-at.ensures | else-count-ne0 w ↦ past _ _ _ _ _ _ _ g h _ _ w.out-is w.at-is w.if-count-ne0.false ])
 
 pub returns : goal.returns
 returns c =

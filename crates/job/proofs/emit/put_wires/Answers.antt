@@ -14,7 +14,6 @@ use Rattle.job.specs.Laws.Tests.{platform_facts}
 use Rattle.job.specs.Laws.Wires.{first_pair, pairs_fewer, wired, unwired}
 use Rattle.job.proofs.emit.put_wires.Invariants.{wires_of, Wiring, done, fits, turn}
 use Rattle.job.proofs.emit.put_wires.Goals as goal
-use Rattle.job.proofs.emit.put_wires.Goals.{In-loop-pair}
 
 -- under topology 3 the pairs are those of the rack's number of processors, under another there is none
 under_other : (p : Platform) (costs out : List ℕ) (start : ℕ) → (p.topology ≡ 3 → ⊥)
@@ -40,11 +39,6 @@ begin p costs out start r e h k a = record {
   put = put_none out start;
 }
 
--- in a turn it is a pair, not past the last
-is-pair : (w : In-loop-pair)
-    → w.loop-pair.pair.from < w.args.platform.processors
-is-pair w = omega (arith, w.loop-pair-test.true)
-
 pub returns-then-platform-ne3 : goal.returns-then-platform-ne3
 returns-then-platform-ne3 c =
     under_other _ _ _ _ (λ e. c.if-platform-ne3.true (omega (arith, e)))
@@ -61,7 +55,7 @@ loop-pair-init c =
 pub place-requires : goal.place-requires
 place-requires c =
     let g = c.loop-pair.invariant in
-    (omega (arith, g.few, is-pair (goal.at.place-requires c).In-loop-pair), omega (arith, g.few, g.on.below (is-pair (goal.at.place-requires c).In-loop-pair)))
+    (omega (arith, g.few, c.loop-pair-test.true), omega (arith, g.few, g.on.below (omega (arith, c.loop-pair-test.true))))
 
 pub bounds-costs-place : goal.bounds-costs-place
 bounds-costs-place c =
@@ -69,20 +63,21 @@ bounds-costs-place c =
 
 pub put4-at-requires : goal.put4-at-requires
 put4-at-requires c =
-    fits _ _ _ _ _ _ _ c.loop-pair.invariant (is-pair (goal.at.put4-at-requires c).After-put4-arg-1)
+    fits _ _ _ _ _ _ _ c.loop-pair.invariant (omega (arith, c.loop-pair-test.true))
 
 pub pair_after-pair-requires-in-loop-pair : goal.pair_after-pair-requires-in-loop-pair
 pair_after-pair-requires-in-loop-pair c =
     let g = c.loop-pair.invariant in
-    (g.few, is-pair (goal.at.pair_after-pair-requires-in-loop-pair c).After-put4-arg-1, g.on.below (is-pair (goal.at.pair_after-pair-requires-in-loop-pair c).After-put4-arg-1))
+    let t : c.loop-pair.pair.from < c.args.platform.processors = omega (arith, c.loop-pair-test.true) in
+    (g.few, t, g.on.below t)
 
 pub loop-pair-smaller : goal.loop-pair-smaller
 loop-pair-smaller c =
-    pairs_fewer _ _ _ c.loop-pair.invariant.on (is-pair (goal.at.loop-pair-smaller c).After-put4-arg-1) c.pair_after-pair-in-loop-pair.ensures
+    pairs_fewer _ _ _ c.loop-pair.invariant.on (omega (arith, c.loop-pair-test.true)) c.pair_after-pair-in-loop-pair.ensures
 
 pub loop-pair-preserved : goal.loop-pair-preserved
 loop-pair-preserved c =
-    turn _ _ _ _ _ _ _ c.loop-pair.invariant (is-pair (goal.at.loop-pair-preserved c).After-put4-arg-1) _ _ _ _ _ _ _ c.pair_after-pair-in-loop-pair.ensures
+    turn _ _ _ _ _ _ _ c.loop-pair.invariant (omega (arith, c.loop-pair-test.true)) _ _ _ _ _ _ _ c.pair_after-pair-in-loop-pair.ensures
     c.put4-at.auto.out (omega arith) (omega arith) (omega arith) c.place.ensures.0 c.put4-at.ensures
 
 pub returns : goal.returns

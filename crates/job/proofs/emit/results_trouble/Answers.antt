@@ -6,6 +6,7 @@ use Prim.Native.Nat.{◌-◌}
 use borrow.Author.Rules.{rules}
 use Rattle.job.proofs.emit.results_trouble.Invariants.{left, no_result, begin, none_left, past, met, on}
 use Rattle.job.proofs.emit.results_trouble.Goals as goal
+use Rattle.job.proofs.emit.results_trouble.Goals.{then-count-ne0+else-trouble-ne0, else-count-ne0}
 
 pub returns-then-many-eq0 : goal.returns-then-many-eq0
 returns-then-many-eq0 c =
@@ -29,10 +30,11 @@ pub loop-t-preserved : goal.loop-t-preserved
 loop-t-preserved c =
     let h = c.loop-t-test.true in (
       search rules,
-      sym (⊎_elim
-          (λ w. on _ _ _ _ _ h w.0.true c.requires.0 _ c.senders-sent.ensures _
-          w.1.ensures w.2.false)
-          (λ w. past _ _ _ _ _ h w.left) c.if-count-ne0.branch) ∙ c.loop-t.invariant.1,
+      sym (elim c.if-count-ne0.branch [
+        then-count-ne0+else-trouble-ne0 w ↦ on _ _ _ _ _ h w.if-count-ne0.true c.requires.0 _ c.senders-sent.ensures _
+            w.delivery_trouble-trouble.ensures w.if-trouble-ne0.false
+        | else-count-ne0 w ↦ past _ _ _ _ _ h w.if-count-ne0.false
+      ]) ∙ c.loop-t.invariant.1,
     )
 
 pub returns : goal.returns
