@@ -56,6 +56,7 @@ module _ (I : Instance) where
   apart_pairs (w ∷ ps) a u v (here d) (there k) ne p = inr (rw d (a.0 v k (sym p ∙ ap (λ (x : Placement). x.processor) d)))
   apart_pairs (w ∷ ps) a u v (there h) (here e) ne p = inl (rw e (a.0 u h (p ∙ ap (λ (x : Placement). x.processor) e)))
   apart_pairs (w ∷ ps) a u v (there h) (there k) ne p = apart_pairs ps a.1 u v h k ne p
+  apart_pairs [] a u v x5 _ ne p = elim x5 [ ]
 
 module _ (I : Instance) (W : WellFormed I) where
   -- the clock after the last round

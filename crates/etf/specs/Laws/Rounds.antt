@@ -76,6 +76,7 @@ module _ (I : Instance) where
         one_if_yes (ltb cm (finish I u)) (lt→ltb cm (finish I u) (omega (arith, ap (finish I) e))),
       )
   live_tick cm x (u ∷ ps) v (there q) h k = omega (arith, live_tick cm x ps v q h k, one_later cm x (finish I u) (omega arith))
+  live_tick cm x [] v x4 h k = elim x4 [ ]
 
   -- ---- where nothing is left, or nothing can go on, all tasks are placed
 

@@ -103,6 +103,7 @@ placement_once (v ∷ ps) o u (there h) = placement_tail v ps u.task other ∙ p
   where
     other : v.task ≡ u.task → ⊥
     other e = not_both (placed ps u.task) (subst (λ T. Holds (not (placed ps T))) e o.0) (placed_in ps u h)
+placement_once mathlib.Core.List.[] o u h = elim h [ ]
 
 module _ (I : Instance) (ps : List Placement) where
   -- how many processors are idle in tick t

@@ -138,7 +138,7 @@ module _ (I : Instance) where
     pair_in cm ps T P r b f =
         flat_map_in (λ S. map (pair I cm ps S) (filter (free I cm ps) (upto I.processors))) (filter (ready I cm ps) I.order) T
         (pair I cm ps T P)
-        (filter_in (ready I cm ps) I.order T (W.Has-All T r.below) (ready_in cm ps T r))
+        (filter_in (ready I cm ps) I.order T (W.has_all T r.below) (ready_in cm ps T r))
         (map_in (pair I cm ps T) (filter (free I cm ps) (upto I.processors)) P
         (filter_in (free I cm ps) (upto I.processors) P (upto_in I.processors P b) f))
 

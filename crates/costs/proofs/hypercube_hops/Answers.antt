@@ -9,8 +9,7 @@ use lib.Count.{ones}
 use Rattle.base.specs.Lists.{upto, all, filter}
 use Rattle.base.specs.Laws.Lists.{all_at, upto_in}
 use Rattle.etf.specs.Topology.{hypercube_hops}
-use Rattle.costs.proofs.hypercube_hops.Statement.{statement}
-use Rattle.costs.proofs.hypercube_hops.Tie as tie
+use Rattle.costs.proofs.hypercube_hops.Goals as goal
 
 right : ℕ → ℕ → Bool
 right p q = eqb (ones (bit_xor p q)) (hypercube_hops p q)
@@ -26,8 +25,6 @@ differing p q r h k e =
     let row = all_at (λ i. all (right i) (upto 16)) (upto 16) all_pairs p (upto_in 16 p h) in
     e ∙ eqb→eq _ _ (all_at (right p) (upto 16) row q (upto_in 16 q k))
 
-returns : tie.Need-returns
-returns c = differing _ _ _ c.requires.0 c.requires.1 (omega arith)
-
-pub hypercube_hops_spec : {M : Type 1} → statement M
-hypercube_hops_spec = tie.close (tie.spec returns)
+pub returns : goal.returns
+returns c =
+    differing _ _ _ c.requires.0 c.requires.1 (omega arith)

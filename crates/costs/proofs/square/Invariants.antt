@@ -3,9 +3,7 @@ use mathlib.Core.Path.{◌≡◌, refl, ap, sym, ◌∙◌}
 use mathlib.Core.Logic.{◌⊎◌, inl, inr}
 use mathlib.Core.List.{List, [], ◌∷◌}
 use Prim.Native.Nat.{ℕ, zero, suc, ◌+◌, ◌*◌, ◌-◌, ◌≤◌, ◌<◌, min}
-use native.Mathlib.Nat.{add-zero}
 use native.Mathlib.Omega.{arith}
-use borrow.Author.Rules.{rules}
 use borrow.Author.Tests.{lt-ltb, le-ltb}
 use lib.ListN.{length, get_or, set, replicate, length-set, get_or-replicate}
 use lib.Seq.{get_or-set_same, get_or-set_other, ext_get_or}
@@ -13,47 +11,46 @@ use Rattle.base.specs.Laws.Tests.{lt_or_ge}
 use Rattle.etf.specs.Topology.{entry, square, cost}
 use Rattle.etf.specs.Laws.Costs.{square_length, row_length, square_at}
 use Rattle.costs.specs.Wires.{loaded}
-use Rattle.costs.proofs.square.Statement.{statement}
-use Rattle.costs.proofs.square.Tie as tie
+use Rattle.costs.proofs.square.Given as goal
 
 -- ---- rows of rows: one store
 
-abbrev stored : List (List ℕ) → ℕ → ℕ → ℕ → List (List ℕ)
+abbrev pub stored : List (List ℕ) → ℕ → ℕ → ℕ → List (List ℕ)
 stored a p q x = set a p (set (get_or a p []) q x)
 
-row_kept : (a : List (List ℕ)) (p q x i : ℕ) → length (get_or (stored a p q x) i []) ≡ length (get_or a i [])
+pub row_kept : (a : List (List ℕ)) (p q x i : ℕ) → length (get_or (stored a p q x) i []) ≡ length (get_or a i [])
 row_kept [] p q x i = refl
 row_kept (r ∷ a) zero q x zero = length-set r q x
 row_kept (r ∷ a) zero q x (suc i) = refl
 row_kept (r ∷ a) (suc p) q x zero = refl
 row_kept (r ∷ a) (suc p) q x (suc i) = row_kept a p q x i
 
-entry_kept : (a : List (List ℕ)) (p q x i j : ℕ) → (i ≡ p → j ≡ q → ⊥) → entry (stored a p q x) i j ≡ entry a i j
+pub entry_kept : (a : List (List ℕ)) (p q x i j : ℕ) → (i ≡ p → j ≡ q → ⊥) → entry (stored a p q x) i j ≡ entry a i j
 entry_kept [] p q x i j h = refl
 entry_kept (r ∷ a) zero q x zero j h = get_or-set_other r q j x 0 (h refl)
 entry_kept (r ∷ a) zero q x (suc i) j h = refl
 entry_kept (r ∷ a) (suc p) q x zero j h = refl
 entry_kept (r ∷ a) (suc p) q x (suc i) j h = entry_kept a p q x i j (λ e. h (ap suc e))
 
-entry_stored : (a : List (List ℕ)) (p q x : ℕ) → p < length a → q < length (get_or a p []) → entry (stored a p q x) p q ≡ x
+pub entry_stored : (a : List (List ℕ)) (p q x : ℕ) → p < length a → q < length (get_or a p []) → entry (stored a p q x) p q ≡ x
 entry_stored a p q x h k = rw (get_or-set_same a p (set (get_or a p []) q x) [] h) (get_or-set_same (get_or a p []) q x 0 k)
 
 -- ---- the square, stored up to a place
 
-zeros : List (List ℕ)
+unfoldable pub zeros : List (List ℕ)
 zeros = replicate 16 (replicate 16 0)
 
 module _ (n : ℕ) (c : ℕ → ℕ → ℕ) where
   -- the entry at i, j is the square's, or its place is the k-th or past it and a cost is to come there
-  abbrev Right : ℕ → List (List ℕ) → ℕ → ℕ → Type 0
+  abbrev pub Right : ℕ → List (List ℕ) → ℕ → ℕ → Type 0
   Right k a i j = (entry a i j ≡ entry (square n c) i j) ⊎ ((i < n) × (j < n) × (k ≤ 16 * i + j))
 
-  record Held (k : ℕ) (a : List (List ℕ)) : Type 0 where
-    rows : length a ≡ 16
-    columns : (i : ℕ) → i < 16 → length (get_or a i []) ≡ 16
-    entries : (i j : ℕ) → i < 16 → j < 16 → Right k a i j
+  pub record Held (k : ℕ) (a : List (List ℕ)) : Type 0 where
+    pub rows : length a ≡ 16
+    pub columns : (i : ℕ) → i < 16 → length (get_or a i []) ≡ 16
+    pub entries : (i j : ℕ) → i < 16 → j < 16 → Right k a i j
 
-  start : Held 0 zeros
+  pub start : Held 0 zeros
   unfolding zeros
   start = record {
     rows = refl;
@@ -72,7 +69,7 @@ module _ (n : ℕ) (c : ℕ → ℕ → ℕ) where
       at i j h k (inl p) (inr q) = inl (none i j h k ∙ sym (square_at n c i j h k ∙ rw (lt-ltb i n p, le-ltb j n q)))
       at i j h k (inr p) q = inl (none i j h k ∙ sym (square_at n c i j h k ∙ rw (le-ltb i n p)))
 
-  more : (a : List (List ℕ)) (p q x : ℕ) → Held (16 * p + q) a → p < 16 → q < 16 → p < n → q < n → x ≡ c p q
+  pub more : (a : List (List ℕ)) (p q x : ℕ) → Held (16 * p + q) a → p < 16 → q < 16 → p < n → q < n → x ≡ c p q
       → Held (16 * p + (q + 1)) (stored a p q x)
   more a p q x s m o hp hq e = record {
     rows = length-set a p (set (get_or a p []) q x) ∙ s.rows;
@@ -98,7 +95,7 @@ module _ (n : ℕ) (c : ℕ → ℕ → ℕ) where
           inl (rw (f, g) here)
 
   -- past the row's last processor no place of the row is to come
-  row_done : (a : List (List ℕ)) (p q : ℕ) → Held (16 * p + q) a → min n 16 ≤ q → Held (16 * (p + 1)) a
+  pub row_done : (a : List (List ℕ)) (p q : ℕ) → Held (16 * p + q) a → min n 16 ≤ q → Held (16 * (p + 1)) a
   row_done a p q s g = record { rows = s.rows; columns = s.columns; entries = λ i j h k. at i j k (s.entries i j h k) }
     where
       at : (i j : ℕ) → j < 16 → Right (16 * p + q) a i j → Right (16 * (p + 1)) a i j
@@ -106,7 +103,7 @@ module _ (n : ℕ) (c : ℕ → ℕ → ℕ) where
       at i j k (inr w) = inr (w.0, w.1, omega arith)
 
   -- past the last row no place is to come
-  done : (a : List (List ℕ)) (p : ℕ) → Held (16 * p) a → min n 16 ≤ p → a ≡ square n c
+  pub done : (a : List (List ℕ)) (p : ℕ) → Held (16 * p) a → min n 16 ≤ p → a ≡ square n c
   done a p s g =
       ext_get_or [] a (square n c) (s.rows ∙ sym (square_length n c))
       (λ i u. let h : i < 16 = omega (arith, s.rows) in
@@ -118,94 +115,14 @@ module _ (n : ℕ) (c : ℕ → ℕ → ℕ) where
       at i j h k (inr w) = absurd (omega arith)
 
 -- ---- the loops
+abbrev pub invariant-loop-q : goal.invariant-loop-q
+invariant-loop-q l = (l.q ≤ l.n) × Held l.platform.processors (cost l.platform (loaded l.wires)) (16 * l.p + l.q) l.costs
 
-abbrev invariant-loop2 : tie.invariant-loop2
-invariant-loop2 platform wires n costs₀ p q₀ costs q =
-    (q ≤ n) × Held platform.processors (cost platform (loaded wires)) (16 * p + q) costs
+abbrev pub decreases-loop-q : goal.decreases-loop-q
+decreases-loop-q l = l.n - l.q
 
-abbrev decreases-loop2 : tie.decreases-loop2
-decreases-loop2 platform wires n costs₀ p q₀ costs q = n - q
+abbrev pub invariant-loop-p : goal.invariant-loop-p
+invariant-loop-p l = (l.p ≤ l.n) × Held l.platform.processors (cost l.platform (loaded l.wires)) (16 * l.p) l.costs
 
-abbrev invariant-loop : tie.invariant-loop
-invariant-loop platform wires n costs₀ p₀ costs p = (p ≤ n) × Held platform.processors (cost platform (loaded wires)) (16 * p) costs
-
-abbrev decreases-loop : tie.decreases-loop
-decreases-loop platform wires n costs₀ p₀ costs p = n - p
-
-index-requires : tie.Need-index-requires invariant-loop2 decreases-loop2 invariant-loop decreases-loop
-index-requires c κs = search rules
-
-least-requires : tie.Need-least-requires invariant-loop2 decreases-loop2 invariant-loop decreases-loop
-least-requires c κs = search rules
-
-loop-holds : tie.Need-loop-init invariant-loop2 decreases-loop2 invariant-loop decreases-loop
-unfolding zeros
-loop-holds c = (search rules, start _ _)
-
-loop2-holds : tie.Need-loop2-init invariant-loop2 decreases-loop2 invariant-loop decreases-loop
-loop2-holds c = (search rules, rw (add-zero _) c.before.loop.invariant.1)
-
-cost-requires : tie.Need-cost-requires invariant-loop2 decreases-loop2 invariant-loop decreases-loop
-cost-requires c κs = search rules
-
-mul-costs : tie.Need-overflow-mul-costs invariant-loop2 decreases-loop2 invariant-loop decreases-loop
-mul-costs c = search rules
-
-mul-costs-2 : tie.Need-overflow-mul-costs-2 invariant-loop2 decreases-loop2 invariant-loop decreases-loop
-mul-costs-2 c = search rules
-
-index-1-costs : tie.Need-bounds-1-costs invariant-loop2 decreases-loop2 invariant-loop decreases-loop
-index-1-costs c = search rules
-
-index-2-costs : tie.Need-bounds-2-costs invariant-loop2 decreases-loop2 invariant-loop decreases-loop
-index-2-costs c = search rules
-
-add-q : tie.Need-overflow-add-q invariant-loop2 decreases-loop2 invariant-loop decreases-loop
-add-q c = search rules
-
-loop2-less : tie.Need-loop2-smaller invariant-loop2 decreases-loop2 invariant-loop decreases-loop
-loop2-less c = search rules
-
-loop2-again : tie.Need-loop2-preserved invariant-loop2 decreases-loop2 invariant-loop decreases-loop
-loop2-again c = (
-  search rules,
-  more _ _ _ _ _ _ c.before.before.loop2.invariant.1 (search rules) (search rules) (search rules) (search rules)
-      c.cost.ensures,
-)
-
-add-p : tie.Need-overflow-add-p invariant-loop2 decreases-loop2 invariant-loop decreases-loop
-add-p c = search rules
-
-loop-less : tie.Need-loop-smaller invariant-loop2 decreases-loop2 invariant-loop decreases-loop
-loop-less c = search rules
-
-loop-again : tie.Need-loop-preserved invariant-loop2 decreases-loop2 invariant-loop decreases-loop
-loop-again c = (search rules, row_done _ _ _ _ _ c.before.loop2.invariant.1 (search rules))
-
-returns : tie.Need-returns invariant-loop2 decreases-loop2 invariant-loop decreases-loop
-returns c = done _ _ _ _ c.before.loop.invariant.1 (search rules)
-
-pub square_spec : {M : Type 1} → statement M
-square_spec =
-    tie.close
-    (tie.spec
-    invariant-loop2
-    decreases-loop2
-    invariant-loop
-    decreases-loop
-    index-requires
-    least-requires
-    loop-holds
-    loop2-holds
-    cost-requires
-    mul-costs
-    mul-costs-2
-    index-1-costs
-    index-2-costs
-    add-q
-    loop2-less
-    loop2-again
-    add-p
-    loop-less
-    loop-again
-    returns)
+abbrev pub decreases-loop-p : goal.decreases-loop-p
+decreases-loop-p l = l.n - l.p
