@@ -12,7 +12,7 @@ use job::Verdict;
 use schedule::Checked;
 
 // What drawing a plan gives: the length of the page, or the refusal's number.
-#[derive(Drop)]
+#[derive(Clone, Copy)]
 pub enum Drawn {
     Length(usize),
     Refused(u8),

@@ -5,7 +5,7 @@ ghost use Rattle.input.specs.Came.{count};
 use libc::STDIN_FILENO;
 
 // How many bytes came; or that a read failed.
-#[derive(Drop)]
+#[derive(Clone, Copy)]
 pub enum Came {
     Bytes(usize),
     Failed,

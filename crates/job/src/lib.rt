@@ -46,7 +46,7 @@ pub struct Reading {
 }
 
 // What writing a job gives: the length written, or the refusal's number.
-#[derive(Drop)]
+#[derive(Clone, Copy)]
 pub enum Written {
     Length(usize),
     Refused(u8),

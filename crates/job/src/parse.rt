@@ -10,7 +10,7 @@ use crate::record::Pair;
 use crate::{Platform, record};
 
 // The rack's trouble, or 0 with its values and the place after it.
-#[derive(Drop)]
+#[derive(Clone, Copy)]
 pub struct FoundRack {
     pub trouble: u8,
     pub platform: Platform,
@@ -18,7 +18,7 @@ pub struct FoundRack {
 }
 
 // A step's trouble, or 0 with its value and the place after it.
-#[derive(Drop)]
+#[derive(Clone, Copy)]
 pub struct FoundStep {
     pub trouble: u8,
     pub duration: u32,
@@ -26,7 +26,7 @@ pub struct FoundStep {
 }
 
 // A wire's trouble, or 0 with its cost and the place after it.
-#[derive(Drop)]
+#[derive(Clone, Copy)]
 pub struct FoundWire {
     pub trouble: u8,
     pub cost: u8,
@@ -34,14 +34,14 @@ pub struct FoundWire {
 }
 
 // The trouble that a pass over wires or results met, or 0 with the place after them.
-#[derive(Drop)]
+#[derive(Clone, Copy)]
 pub struct Passage {
     pub trouble: u8,
     pub next: usize,
 }
 
 // A link's trouble, or 0 with its values, the least key above it and the place after it.
-#[derive(Drop)]
+#[derive(Clone, Copy)]
 pub struct FoundLink {
     pub trouble: u8,
     pub from: u8,
@@ -52,7 +52,7 @@ pub struct FoundLink {
 }
 
 // A result's trouble, or 0 with its values and the place after it.
-#[derive(Drop)]
+#[derive(Clone, Copy)]
 pub struct FoundResult {
     pub trouble: u8,
     pub task: u8,
@@ -61,7 +61,7 @@ pub struct FoundResult {
 }
 
 // The trouble that a pass met, or 0 with how many records it took and the place after them.
-#[derive(Drop)]
+#[derive(Clone, Copy)]
 pub struct Pass {
     pub trouble: u8,
     pub count: usize,

@@ -24,21 +24,21 @@ use job::{Reading, Verdict};
 use priority::Ties;
 
 // What planning a job gives: the number of its tasks and the plan's end.
-#[derive(Drop)]
+#[derive(Clone, Copy)]
 pub struct Outcome {
     pub tasks: usize,
     pub end: u32,
 }
 
 // That, or the refusal's number.
-#[derive(Drop)]
+#[derive(Clone, Copy)]
 pub enum Planned {
     Plan(Outcome),
     Refused(u8),
 }
 
 // What the cover call gives: the cover, the least cover and the dearest chain of the planner's plan.
-#[derive(Drop)]
+#[derive(Clone, Copy)]
 pub struct Figures {
     pub cover: u32,
     pub least: u32,
@@ -46,14 +46,14 @@ pub struct Figures {
 }
 
 // That, or the refusal's number.
-#[derive(Drop)]
+#[derive(Clone, Copy)]
 pub enum Covered {
     Cover(Figures),
     Refused(u8),
 }
 
 // What checking a plan gives: a yes, or the refusal's number.
-#[derive(Drop)]
+#[derive(Clone, Copy)]
 pub enum Checked {
     Yes,
     Refused(u8),
@@ -67,7 +67,7 @@ pub struct Judged {
 }
 
 // What laying a plan out gives: its last finish, or that a slice is too short.
-#[derive(Drop)]
+#[derive(Clone, Copy)]
 pub enum Laid {
     Last(u32),
     Short,

@@ -5,7 +5,7 @@ ghost use Rattle.etf.specs.Checker.{latest_start};
 ghost use Rattle.schedule.specs.Pass.{message_at, reach_at, Sender};
 
 // The task that they come from, its processor, how many they are, and when they are sent.
-#[derive(Drop)]
+#[derive(Clone, Copy)]
 pub struct Sent {
     pub sender: usize,
     pub processor: usize,
@@ -42,7 +42,7 @@ pub fn sent_along(
 }
 
 // The task that they come from, what they take to a processor, and when they are there.
-#[derive(Drop)]
+#[derive(Clone, Copy)]
 pub struct Messages {
     pub sender: usize,
     pub time: u32,

@@ -7,7 +7,7 @@ ghost use Rattle.schedule.specs.Pass.{Surveyed, Raised, ToSend, Sent, OrderIn, S
 ghost use Rattle.schedule.specs.Pass.{inbox, tables, first_best, row_of, row_by, no_pair, searched, run_call};
 
 // A task, a processor and the start that the task would have there; 4294967295 where there is none.
-#[derive(Drop)]
+#[derive(Clone, Copy)]
 pub struct Pair {
     pub start: u32,
     pub task: usize,
@@ -15,21 +15,21 @@ pub struct Pair {
 }
 
 // The next moment (01: NM), 4294967295 where it is endless, and the number of free processors.
-#[derive(Drop)]
+#[derive(Clone, Copy)]
 pub struct Moment {
     pub next: u32,
     pub free: usize,
 }
 
 // The next moment, and the first pair of smallest start; it is placed if it starts by the next moment.
-#[derive(Drop)]
+#[derive(Clone, Copy)]
 pub struct Choice {
     pub next: u32,
     pub pair: Pair,
 }
 
 // A task that is done: when, and its edges, `first` to before `last`.
-#[derive(Drop)]
+#[derive(Clone, Copy)]
 pub struct Done {
     pub finish: u32,
     pub first: usize,

@@ -13,7 +13,7 @@ use crate::planner;
 use crate::planner::{Choice, Pair};
 
 // The messages of an edge: when their sender finishes, how many they are, and the costs from its processor.
-#[derive(Drop)]
+#[derive(Clone, Copy)]
 pub struct Bundle {
     pub finish: u32,
     pub messages: u32,

@@ -1,0 +1,15 @@
+-- `chains::dearest`: what the edges sum to with the instance's greatest cost is its dearest chain.
+use native.Mathlib.Omega.{arith}
+use Rattle.schedule.specs.Laws.Held.{climb, edges_there}
+use Rattle.schedule.specs.Laws.Walk.DearestChain.{messages_fit, dearest_found}
+use Rattle.schedule.proofs.chains.dearest.Goals as goal
+
+pub sum-requires : goal.sum-requires
+sum-requires c =
+    let given = c.requires in
+    let F = given.0 in record { edges_in_bounds = edges_there F; by_index = climb F; by_index_2 = (λ k h. (F.forward k h, omega (arith, F.within k h, F.few_tasks))); by_index_3 = messages_fit F given.1 }
+
+pub returns : goal.returns
+returns c =
+    let given = c.requires in
+    dearest_found given.0 given.1 c.sum.ensures
