@@ -20,9 +20,6 @@ answer ties j = Cover (figures (instance_by ties j))
 abbrev ties-of : tie.After-read → Ties
 ties-of r = r.before.before.before.before.before.args.ties
 
-abbrev verdict-of : tie.After-square → tie.After-verdict
-verdict-of s = (index_of s).before.before
-
 pub returns-in_default : goal.returns-in_default
 unfolding cover_call_by
 returns-in_default c =
@@ -32,34 +29,30 @@ returns-in_default c =
 
 pub lay_out-laid-requires : goal.lay_out-laid-requires
 lay_out-laid-requires c =
-    let v = verdict-of (goal.at.lay_out-laid-requires c).After-square-arg-2-1 in
-    let read = read_as v.before.before.read.ensures v.verdict.given.1 in
+    let read = read_as c.read-r.ensures c.in-Counts.is in
     plannable read c.index-n.ensures.0 c.square-costs.ensures
 
 pub returns-in_default-laid : goal.returns-in_default-laid
 unfolding cover_call_by
 returns-in_default-laid c =
-    let v = verdict-of (goal.at.returns-in_default-laid c).After-square-arg-2-1 in
-    let ties = ties-of v.before.before in
-    let read = read_as v.before.before.read.ensures v.verdict.given.1 in
+    let ties = ties-of (goal.at.returns-in_default-laid c).After-slice_known-2-1 in
+    let read = read_as c.read-r.ensures c.in-Counts.is in
     let number = plannable read c.index-n.ensures.0 c.square-costs.ensures in
     let same = instance_by_lem number ties read.job (instance_held read c.index-n.ensures.0 c.square-costs.ensures) in
     call_short read (tie_rule ties) same Refused (answer ties) _ _ _ c.in_default-laid.is c.lay_out-laid.ensures
 
 pub measure-requires : goal.measure-requires
 measure-requires c =
-    let v = verdict-of (goal.at.measure-requires c).In-Counts in
-    let ties = ties-of v.before.before in
-    let read = read_as v.before.before.read.ensures v.verdict.given.1 in
+    let ties = ties-of (goal.at.measure-requires c).Start in
+    let read = read_as c.read-r.ensures c.in-Counts.is in
     let number = plannable read c.index-n.ensures.0 c.square-costs.ensures in
     let given = plannable_by number ties in record { plannable = number; by_index = (_, held_in number ties (laid_holds given _ _ _ c.in-Last.is c.lay_out-laid.ensures)) }
 
 pub returns : goal.returns
 unfolding cover_call_by
 returns c =
-    let v = verdict-of (goal.at.returns c).In-Counts in
-    let ties = ties-of v.before.before in
-    let read = read_as v.before.before.read.ensures v.verdict.given.1 in
+    let ties = ties-of (goal.at.returns c).Start in
+    let read = read_as c.read-r.ensures c.in-Counts.is in
     let number = plannable read c.index-n.ensures.0 c.square-costs.ensures in
     let same = instance_by_lem number ties read.job (instance_held read c.index-n.ensures.0 c.square-costs.ensures) in
     let given = plannable_by number ties in

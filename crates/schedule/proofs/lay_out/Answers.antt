@@ -13,13 +13,10 @@ use Rattle.schedule.specs.Laws.Calls.{long_enough, cleared_room, laid_short, lai
 use Rattle.schedule.proofs.lay_out.Goals as goal
 use Rattle.schedule.proofs.lay_out.Goals.{After-order-order}
 
-abbrev short-of : tie.After-clear → tie.After-too-short
-short-of c = (room_of c).before
-
 -- the array has the tasks by the rule
 module _ (o : After-order-order) where
   abbrev begun : tie.Start
-  begun = start_of (short-of o.before.before.before)
+  begun = start_of o.before.before.before.before.before.before
 
   abbrev A : InArrays
   A = in_number_order begun.args.n begun.args.tasks begun.args.edges begun.args.durations.now begun.args.from.now
@@ -34,20 +31,16 @@ returns-then-too_short c =
 
 pub run-requires : goal.run-requires
 run-requires c =
-    let at_short = short-of (goal.at.run-requires c).After-clear in
-    let fits = long_enough at_short.too_short.ensures c.if-too_short.false in
-    let start = at_short.before.before.before.before.before in
-    let scratch = start.args.scratch.now in record { plannable = plannable_in start.requires start.args.ties _ (by_place (goal.at.run-requires c).After-order-order); tasks_in_bounds = (
-        omega (arith, c.order-order.ensures.result_len, start.requires.few_tasks),
+    let fits = long_enough c.too_short.ensures c.if-too_short.false in
+    let scratch = c.args.scratch.now in record { plannable = plannable_in c.requires c.args.ties _ (by_place (goal.at.run-requires c).After-order-order); tasks_in_bounds = (
+        omega (arith, c.order-order.ensures.result_len, c.requires.few_tasks),
         cleared_room scratch fits (filled_within (λ x. 0) 4096 scratch fits.2 c.clear.ensures),
       ) }
 
 pub returns : goal.returns
 returns c =
-    let at_short = short-of (goal.at.returns c).After-clear in
-    let fits = long_enough at_short.too_short.ensures c.if-too_short.false in
-    let start = at_short.before.before.before.before.before in
-    laid_end (plannable_by start.requires start.args.ties) _ _ _
-    (same_in start.requires start.args.ties _ (by_place (goal.at.returns c).After-order-order)) at_short.too_short.ensures c.if-too_short.false
-    (filled_within (λ x. 0) 4096 start.args.scratch.now fits.2 c.clear.ensures)
+    let fits = long_enough c.too_short.ensures c.if-too_short.false in
+    laid_end (plannable_by c.requires c.args.ties) _ _ _
+    (same_in c.requires c.args.ties _ (by_place (goal.at.returns c).After-order-order)) c.too_short.ensures c.if-too_short.false
+    (filled_within (λ x. 0) 4096 c.args.scratch.now fits.2 c.clear.ensures)
     c.run.ensures

@@ -7,26 +7,21 @@ use Rattle.schedule.specs.Laws.Calls.{long_enough}
 use Rattle.schedule.specs.Laws.SmallCalls.{small_room, small_short, small_end}
 use Rattle.schedule.proofs.lay_small.Goals as goal
 
-abbrev short-of : tie.After-clear → tie.After-too-short
-short-of c = (room_of c).before
-
 pub returns-then-too_short : goal.returns-then-too_short
 returns-then-too_short c =
     small_short c.requires _ _ _ _ c.too_short.ensures c.if-too_short.true (omega arith)
 
 pub run-last-requires : goal.run-last-requires
 run-last-requires c =
-    let at_short = short-of (goal.at.run-last-requires c).After-clear in
-    let fits = long_enough at_short.too_short.ensures c.if-too_short.false in
-    let scratch = at_short.before.before.before.before.before.before.before.before.args.scratch.now in
-    let wide : 512 ≤ length scratch = omega (arith, fits.2) in record { plannable = at_short.before.before.before.before.before.before.before.before.requires; small_room = small_room scratch (fits.0, fits.1, wide) (filled_within (λ x. 0) 512 scratch wide c.clear.ensures) }
+    let fits = long_enough c.too_short.ensures c.if-too_short.false in
+    let scratch = c.args.scratch.now in
+    let wide : 512 ≤ length scratch = omega (arith, fits.2) in record { plannable = c.requires; small_room = small_room scratch (fits.0, fits.1, wide) (filled_within (λ x. 0) 512 scratch wide c.clear.ensures) }
 
 pub returns : goal.returns
 returns c =
-    let at_short = short-of (goal.at.returns c).After-clear in
-    let fits = long_enough at_short.too_short.ensures c.if-too_short.false in
-    let scratch = at_short.before.before.before.before.before.before.before.before.args.scratch.now in
+    let fits = long_enough c.too_short.ensures c.if-too_short.false in
+    let scratch = c.args.scratch.now in
     let wide : 512 ≤ length scratch = omega (arith, fits.2) in
-    small_end at_short.before.before.before.before.before.before.before.before.requires _ _ _ _ at_short.too_short.ensures c.if-too_short.false (omega arith)
+    small_end c.requires _ _ _ _ c.too_short.ensures c.if-too_short.false (omega arith)
     (filled_within (λ x. 0) 512 scratch wide c.clear.ensures)
     c.run-last.auto.scratch c.run-last.ensures _ c.clear-2.ensures (omega arith)

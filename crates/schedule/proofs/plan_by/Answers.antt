@@ -23,9 +23,6 @@ answer ties j = Plan (outcome_by (instance_by ties) j)
 abbrev ties-of : tie.After-read → Ties
 ties-of r = r.before.before.before.before.before.args.ties
 
-abbrev verdict-of : tie.After-square → tie.After-verdict
-verdict-of s = (index_of s).before.before
-
 pub returns-in_default : goal.returns-in_default
 unfolding plan_call_by
 returns-in_default c =
@@ -35,25 +32,22 @@ returns-in_default c =
 
 pub lay_out-laid-requires : goal.lay_out-laid-requires
 lay_out-laid-requires c =
-    let v = verdict-of (goal.at.lay_out-laid-requires c).After-square-arg-2-1 in
-    let read = read_as v.before.before.read.ensures v.verdict.given.1 in
+    let read = read_as c.read-r.ensures c.in-Counts.is in
     plannable read c.index-n.ensures.0 c.square-costs.ensures
 
 pub returns-in_default-laid : goal.returns-in_default-laid
 unfolding plan_call_by
 returns-in_default-laid c =
-    let v = verdict-of (goal.at.returns-in_default-laid c).After-square-arg-2-1 in
-    let ties = ties-of v.before.before in
-    let read = read_as v.before.before.read.ensures v.verdict.given.1 in
+    let ties = ties-of (goal.at.returns-in_default-laid c).After-slice_known-2-1 in
+    let read = read_as c.read-r.ensures c.in-Counts.is in
     let number = plannable read c.index-n.ensures.0 c.square-costs.ensures in
     let same = instance_by_lem number ties read.job (instance_held read c.index-n.ensures.0 c.square-costs.ensures) in
     call_short read (tie_rule ties) same Refused (answer ties) _ _ _ c.in_default-laid.is c.lay_out-laid.ensures
 
 pub end-end-requires : goal.end-end-requires
 end-end-requires c =
-    let v = verdict-of (goal.at.end-end-requires c).In-Counts in
-    let ties = ties-of v.before.before in
-    let read = read_as v.before.before.read.ensures v.verdict.given.1 in
+    let ties = ties-of (goal.at.end-end-requires c).Start in
+    let read = read_as c.read-r.ensures c.in-Counts.is in
     let given = plannable_by (plannable read c.index-n.ensures.0 c.square-costs.ensures) ties in
     let last_is = laid_last given _ _ _ c.in-Last.is c.lay_out-laid.ensures in
     deliverable given (laid_holds given _ _ _ c.in-Last.is c.lay_out-laid.ensures) last_is _
@@ -62,9 +56,8 @@ end-end-requires c =
 pub returns : goal.returns
 unfolding plan_call_by
 returns c =
-    let v = verdict-of (goal.at.returns c).In-Counts in
-    let ties = ties-of v.before.before in
-    let read = read_as v.before.before.read.ensures v.verdict.given.1 in
+    let ties = ties-of (goal.at.returns c).Start in
+    let read = read_as c.read-r.ensures c.in-Counts.is in
     let number = plannable read c.index-n.ensures.0 c.square-costs.ensures in
     let same = instance_by_lem number ties read.job (instance_held read c.index-n.ensures.0 c.square-costs.ensures) in
     let given = plannable_by (plannable read c.index-n.ensures.0 c.square-costs.ensures) ties in

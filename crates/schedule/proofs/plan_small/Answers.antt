@@ -12,9 +12,6 @@ use Rattle.schedule.specs.Laws.SmallCalls.{small_holds, call_small_short, call_s
 use Rattle.schedule.specs.Laws.Delivery.{deliverable, end_found}
 use Rattle.schedule.proofs.plan_small.Goals as goal
 
-abbrev verdict-of : tie.After-square → tie.After-verdict
-verdict-of s = (index_of s).before.before
-
 pub returns-in_default : goal.returns-in_default
 unfolding small_call
 returns-in_default c =
@@ -23,49 +20,41 @@ returns-in_default c =
 
 pub slice_bounds-lay_small-end : goal.slice_bounds-lay_small-end
 slice_bounds-lay_small-end c =
-    let v = verdict-of (goal.at.slice_bounds-lay_small-end c).After-square-costs in
-    sym (read_as v.before.before.read-into.ensures v.verdict.given.1).durations_size
+    sym (read_as c.read_into-found.ensures c.in-Counts.is).durations_size
 
 pub slice_bounds-lay_small-end-2 : goal.slice_bounds-lay_small-end-2
 slice_bounds-lay_small-end-2 c =
-    let v = verdict-of (goal.at.slice_bounds-lay_small-end-2 c).After-square-costs in
-    sym (read_as v.before.before.read-into.ensures v.verdict.given.1).from_size
+    sym (read_as c.read_into-found.ensures c.in-Counts.is).from_size
 
 pub slice_bounds-lay_small-end-3 : goal.slice_bounds-lay_small-end-3
 slice_bounds-lay_small-end-3 c =
-    let v = verdict-of (goal.at.slice_bounds-lay_small-end-3 c).After-square-costs in
-    sym (read_as v.before.before.read-into.ensures v.verdict.given.1).to_size
+    sym (read_as c.read_into-found.ensures c.in-Counts.is).to_size
 
 pub slice_bounds-lay_small-end-4 : goal.slice_bounds-lay_small-end-4
 slice_bounds-lay_small-end-4 c =
-    let v = verdict-of (goal.at.slice_bounds-lay_small-end-4 c).After-square-costs in
-    sym (read_as v.before.before.read-into.ensures v.verdict.given.1).counts_size
+    sym (read_as c.read_into-found.ensures c.in-Counts.is).counts_size
 
 pub lay_small-laid-requires : goal.lay_small-laid-requires
 lay_small-laid-requires c =
-    let v = verdict-of (goal.at.lay_small-laid-requires c).After-square-costs in
-    let read = read_as v.before.before.read-into.ensures v.verdict.given.1 in
+    let read = read_as c.read_into-found.ensures c.in-Counts.is in
     plannable read c.index-n.ensures.0 c.square-costs.ensures
 
 pub returns-in_default-laid : goal.returns-in_default-laid
 returns-in_default-laid c =
-    let v = verdict-of (goal.at.returns-in_default-laid c).After-square-costs in
-    let read = read_as v.before.before.read-into.ensures v.verdict.given.1 in
+    let read = read_as c.read_into-found.ensures c.in-Counts.is in
     let same = instance_held read c.index-n.ensures.0 c.square-costs.ensures in
     call_small_short read same _ _ _ c.in_default-laid.is c.lay_small-laid.ensures
 
 pub end-reported-requires : goal.end-reported-requires
 end-reported-requires c =
-    let v = verdict-of (goal.at.end-reported-requires c).After-square-arg-1 in
-    let read = read_as v.before.before.read-into.ensures v.verdict.given.1 in
+    let read = read_as c.read_into-found.ensures c.in-Counts.is in
     let given = plannable read c.index-n.ensures.0 c.square-costs.ensures in
     let held = small_holds given _ _ _ c.in-Last.is c.lay_small-laid.ensures in
     deliverable given held.0 held.1 _ (near_gate read c.index-n.ensures.0 c.square-costs.ensures)
 
 pub returns : goal.returns
 returns c =
-    let v = verdict-of (goal.at.returns c).After-square-arg-1 in
-    let read = read_as v.before.before.read-into.ensures v.verdict.given.1 in
+    let read = read_as c.read_into-found.ensures c.in-Counts.is in
     let same = instance_held read c.index-n.ensures.0 c.square-costs.ensures in
     let given = plannable read c.index-n.ensures.0 c.square-costs.ensures in
     let held = small_holds given _ _ _ c.in-Last.is c.lay_small-laid.ensures in

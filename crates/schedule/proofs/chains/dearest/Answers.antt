@@ -6,10 +6,8 @@ use Rattle.schedule.proofs.chains.dearest.Goals as goal
 
 pub sum-requires : goal.sum-requires
 sum-requires c =
-    let given = c.requires in
-    let F = given.0 in record { edges_in_bounds = edges_there F; by_index = climb F; by_index_2 = (λ k h. (F.forward k h, omega (arith, F.within k h, F.few_tasks))); by_index_3 = messages_fit F given.1 }
+    let F = c.requires.plannable in record { edges_in_bounds = edges_there F; by_index = climb F; by_index_2 = (λ k h. (F.forward k h, omega (arith, F.within k h, F.few_tasks))); by_index_3 = messages_fit F c.requires.cost_value }
 
 pub returns : goal.returns
 returns c =
-    let given = c.requires in
-    dearest_found given.0 given.1 c.sum.ensures
+    dearest_found c.requires.plannable c.requires.cost_value c.sum.ensures

@@ -6,7 +6,7 @@ use Rattle.base.specs.Rows.{most}
 use Rattle.schedule.proofs.chains.greatest_in.Given as goal
 
 abbrev pub invariant-loop-q : goal.invariant-loop-q
-invariant-loop-q l = (l.q ≤ l.n) × (l.n ≤ length l.row) × (l.top ≡ most l.q (λ i. get_or l.row i 0))
+invariant-loop-q l = (l.q ≤ l.n) × (l.n ≤ length l.row) × (l.most ≡ most l.q (λ i. get_or l.row i 0))
 
 abbrev pub decreases-loop-q : goal.decreases-loop-q
 decreases-loop-q l = l.n - l.q

@@ -123,7 +123,7 @@ module _ (from to counts : List ℕ) (l cost : ℕ) where
               )
 
 abbrev pub invariant-loop-k : goal.invariant-loop-k
-invariant-loop-k l = (l.k ≤ l.edges) × Summed l.from l.to l.counts l.edges l.cost l.k l.sums l.top
+invariant-loop-k l = (l.k ≤ l.edges) × Summed l.from l.to l.counts l.edges l.cost l.k l.sums l.most
 
 abbrev pub decreases-loop-k : goal.decreases-loop-k
 decreases-loop-k l = l.edges - l.k

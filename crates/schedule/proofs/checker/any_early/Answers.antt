@@ -41,12 +41,8 @@ module _ {durations starts processors from to counts : List ℕ} {costs : List (
 module _ (w : In-loop-k) where
 
   joins : Joined w.args.durations.now w.args.starts.now w.args.processors.now
-      w.args.from.now w.args.to.now w.args.counts.now w.args.t6 w.loop-k.k
+      w.args.from.now w.args.to.now w.args.counts.now w.args.costs w.loop-k.k
   joins = w.requires.by_index w.loop-k.k w.loop-k-test.true
-
--- after the two reads
-module _ (w : After-index-q) where
-
 
 pub loop-k-init : goal.loop-k-init
 loop-k-init c =

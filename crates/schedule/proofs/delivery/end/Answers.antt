@@ -68,7 +68,7 @@ fits h = search (rules, h)
 -- in the loop task t is looked at
 module _ (w : In-loop-t) where
 
-  abbrev g : Going w.args.tasks w.args.last w.args.durations.now w.args.results.now w.args.t5
+  abbrev g : Going w.args.tasks w.args.last w.args.durations.now w.args.results.now w.args.costs
       w.args.starts.now w.args.processors.now w.loop-t.end w.loop-t.t
   g = w.loop-t.invariant
 
@@ -94,22 +94,22 @@ bounds-durations-t c =
 
 pub overflow_add-arrival : goal.overflow_add-arrival
 overflow_add-arrival c =
-    fits (omega (arith, finished c.requires (g (goal.at.overflow_add-arrival c).After-wide16-arg-1) c.loop-t-test.true))
+    fits (omega (arith, finished c.requires (g (goal.at.overflow_add-arrival c).In-loop-t) c.loop-t-test.true))
 
 pub bounds-costs-p : goal.bounds-costs-p
 bounds-costs-p c =
-    row_there c.requires (g (goal.at.bounds-costs-p c).After-wide16-arg-1) c.loop-t-test.true c.wide16-count.ensures c.index-p.ensures.0
+    row_there c.requires (g (goal.at.bounds-costs-p c).In-loop-t) c.loop-t-test.true c.wide16-count.ensures c.index-p.ensures.0
 
 pub overflow_mul-arrival : goal.overflow_mul-arrival
 overflow_mul-arrival c =
     let p-is = c.index-p.ensures.0 in
-    fits (omega (arith, near c.requires (g (goal.at.overflow_mul-arrival c).After-wide16-arg-1) c.loop-t-test.true c.wide16-count.ensures p-is))
+    fits (omega (arith, near c.requires (g (goal.at.overflow_mul-arrival c).In-loop-t) c.loop-t-test.true c.wide16-count.ensures p-is))
 
 pub overflow_add-arrival-then-count-ne0 : goal.overflow_add-arrival-then-count-ne0
 overflow_add-arrival-then-count-ne0 c =
     let p-is = c.index-p.ensures.0 in
     let h = c.loop-t-test.true in
-    fits (omega (arith, finished c.requires (g (goal.at.overflow_add-arrival-then-count-ne0 c).After-wide16-arg-1) h, near c.requires (g (goal.at.overflow_add-arrival-then-count-ne0 c).After-wide16-arg-1) h c.wide16-count.ensures p-is))
+    fits (omega (arith, finished c.requires (g (goal.at.overflow_add-arrival-then-count-ne0 c).In-loop-t) h, near c.requires (g (goal.at.overflow_add-arrival-then-count-ne0 c).In-loop-t) h c.wide16-count.ensures p-is))
 
 pub overflow_add-t : goal.overflow_add-t
 overflow_add-t c =
@@ -118,7 +118,7 @@ overflow_add-t c =
 pub loop-t-preserved : goal.loop-t-preserved
 loop-t-preserved c =
     let h = c.loop-t-test.true in
-    (elim c.if-count-ne0.branch [ then-count-ne0+then-end-arrival a ↦ later c.requires (g (goal.at.loop-t-preserved c).After-way_told-1) h c.wide16-count.ensures a.index-p.ensures.0 (omega (arith, a.if-end-arrival, a.arrival-then-count-ne0-1.taken)) | then-count-ne0+else-end-arrival a ↦ later c.requires (g (goal.at.loop-t-preserved c).After-way_told-1) h c.wide16-count.ensures a.index-p.ensures.0 (omega (arith, a.if-end-arrival, a.arrival-then-count-ne0-1.left)) | else-count-ne0 a ↦ nothing c.requires (g (goal.at.loop-t-preserved c).After-way_told-1) h (omega (arith, c.wide16-count.ensures, a.if-count-ne0.false)) a.end-is ])
+    (elim c.if-count-ne0.branch [ then-count-ne0+then-end-arrival a ↦ later c.requires (g (goal.at.loop-t-preserved c).In-loop-t) h c.wide16-count.ensures a.index-p.ensures.0 (omega (arith, a.if-end-arrival, a.arrival-then-count-ne0-1.taken)) | then-count-ne0+else-end-arrival a ↦ later c.requires (g (goal.at.loop-t-preserved c).In-loop-t) h c.wide16-count.ensures a.index-p.ensures.0 (omega (arith, a.if-end-arrival, a.arrival-then-count-ne0-1.left)) | else-count-ne0 a ↦ nothing c.requires (g (goal.at.loop-t-preserved c).In-loop-t) h (omega (arith, c.wide16-count.ensures, a.if-count-ne0.false)) a.end-is ])
 
 pub returns : goal.returns
 returns c =

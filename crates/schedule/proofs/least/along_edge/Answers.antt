@@ -163,8 +163,7 @@ module _ (y : Joined-soonest-latest) where
 -- ---- the needs
 pub sent_along-sent-requires : goal.sent_along-sent-requires
 sent_along-sent-requires c =
-    let given = c.requires in
-    let S = given.1.0 0 in record { k_in_bounds = (given.0.0, given.0.1); k_in_bounds_2 = (S.has_start, S.has_duration, S.has_processor); k_bound = S.in_time }
+    let S = c.requires.by_index 0 in record { k_in_bounds = (c.requires.k_in_bounds.0, c.requires.k_in_bounds.1); k_in_bounds_2 = (S.has_start, S.has_duration, S.has_processor); k_bound = S.in_time }
 
 pub overflow_mul-count : goal.overflow_mul-count
 overflow_mul-count c =
@@ -217,16 +216,16 @@ bounds-costs-p c =
 
 pub overflow_sub-first : goal.overflow_sub-first
 overflow_sub-first c =
-    omega (arith, first_is (goal.at.overflow_sub-first c).After-shared_slice_known-7-1)
+    omega (arith, first_is (goal.at.overflow_sub-first c).Joined-soonest-latest)
 
 pub overflow_add-before : goal.overflow_add-before
 overflow_add-before c =
-    record { fits = omega (arith, first_is (goal.at.overflow_add-before c).After-shared_slice_known-7-1, served_most (goal.at.overflow_add-before c).After-shared_slice_known-7-1, most_near (goal.at.overflow_add-before c).After-shared_slice_known-6-1, nearest_near (goal.at.overflow_add-before c).After-shared_slice_known-6-1, c.requires.k_in_bounds.3) }
+    record { fits = omega (arith, first_is (goal.at.overflow_add-before c).Joined-soonest-latest, served_most (goal.at.overflow_add-before c).Joined-soonest-latest, most_near (goal.at.overflow_add-before c).After-sent_along-sent, nearest_near (goal.at.overflow_add-before c).After-sent_along-sent, c.requires.k_in_bounds.3) }
 
 pub through-requires : goal.through-requires
 through-requires c =
-    let S = sends (goal.at.through-requires c).After-shared_slice_known-6-1 in record { row_len = (search rules, c.requires.k_in_bounds.2, sent_in_time (goal.at.through-requires c).After-shared_slice_known-6-1, c.requires.k_in_bounds.3); by_index = λ P. time_most (S P) (p_sent (goal.at.through-requires c).After-shared_slice_known-6-1) (w_sent (goal.at.through-requires c).After-shared_slice_known-6-1); by_index_2 = no_less S (costs_are (goal.at.through-requires c).After-shared_slice_known-6-1) (p_sent (goal.at.through-requires c).After-shared_slice_known-6-1) (w_sent (goal.at.through-requires c).After-shared_slice_known-6-1) (f_sent (goal.at.through-requires c).After-shared_slice_known-6-1) (not_there (goal.at.through-requires c).After-shared_slice_known-7-1) _ (first_is (goal.at.through-requires c).After-shared_slice_known-7-1) }
+    let S = sends (goal.at.through-requires c).After-sent_along-sent in record { row_len = (search rules, c.requires.k_in_bounds.2, sent_in_time (goal.at.through-requires c).After-sent_along-sent, c.requires.k_in_bounds.3); by_index = λ P. time_most (S P) (p_sent (goal.at.through-requires c).After-sent_along-sent) (w_sent (goal.at.through-requires c).After-sent_along-sent); by_index_2 = no_less S (costs_are (goal.at.through-requires c).After-sent_along-sent) (p_sent (goal.at.through-requires c).After-sent_along-sent) (w_sent (goal.at.through-requires c).After-sent_along-sent) (f_sent (goal.at.through-requires c).After-sent_along-sent) (not_there (goal.at.through-requires c).Joined-soonest-latest) _ (first_is (goal.at.through-requires c).Joined-soonest-latest) }
 
 pub returns : goal.returns
 returns c =
-    as_sent (sends (goal.at.returns c).After-shared_slice_known-6-1) (costs_are (goal.at.returns c).After-shared_slice_known-6-1) (p_sent (goal.at.returns c).After-shared_slice_known-6-1) (w_sent (goal.at.returns c).After-shared_slice_known-6-1) (f_sent (goal.at.returns c).After-shared_slice_known-6-1) _ c.through.ensures
+    as_sent (sends (goal.at.returns c).After-sent_along-sent) (costs_are (goal.at.returns c).After-sent_along-sent) (p_sent (goal.at.returns c).After-sent_along-sent) (w_sent (goal.at.returns c).After-sent_along-sent) (f_sent (goal.at.returns c).After-sent_along-sent) _ c.through.ensures

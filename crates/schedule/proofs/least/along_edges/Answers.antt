@@ -28,25 +28,23 @@ loop-k-init c =
 
 pub along_edge-requires : goal.along_edge-requires
 along_edge-requires c =
-    let given = c.requires in
     let known = c.loop-k.invariant.1 in record { k_in_bounds = (
-        omega (arith, given.0, further (goal.at.along_edge-requires c).After-slice_known-in-loop-k-2-1),
-        omega (arith, given.0, further (goal.at.along_edge-requires c).After-slice_known-in-loop-k-2-1),
-        given.1.1.1.1.0.2 _ c.index-t.ensures.1,
+        omega (arith, c.requires.edges_in_bounds, further (goal.at.along_edge-requires c).After-slice_known-in-loop-k-2-1),
+        omega (arith, c.requires.edges_in_bounds, further (goal.at.along_edge-requires c).After-slice_known-in-loop-k-2-1),
+        c.requires.latest_len.2 _ c.index-t.ensures.1,
         sum_most _ _ _ _ _ _ _ _ _ known _ c.index-s.ensures.1,
         search rules,
-      ); by_index = (λ P. given.1.1.1.0 _ P (further (goal.at.along_edge-requires c).After-slice_known-in-loop-k-2-1)); between = rw c.index-t.ensures.0 (given.1.1.1.1.1.0 _ (further (goal.at.along_edge-requires c).After-slice_known-in-loop-k-2-1)) }
+      ); by_index = (λ P. c.requires.by_index_3 _ P (further (goal.at.along_edge-requires c).After-slice_known-in-loop-k-2-1)); between = rw c.index-t.ensures.0 (c.requires.by_index_4 _ (further (goal.at.along_edge-requires c).After-slice_known-in-loop-k-2-1)) }
 
 pub loop-k-preserved : goal.loop-k-preserved
 loop-k-preserved c =
-    let given = c.requires in
     let known = c.loop-k.invariant.1 in
     let s = c.index-s.ensures in
     let t = c.index-t.ensures in
     let rises : (i : ℕ) → i ≤ c.loop-k.k
     → get_or c.args.from.now i 0 ≤ get_or c.args.from.now c.loop-k.k 0 =
-    λ i h. given.1.0 i c.loop-k.k h (further (goal.at.loop-k-preserved c).After-slice_known-in-loop-k-2-1) in
-    let up = given.1.1.0 _ (further (goal.at.loop-k-preserved c).After-slice_known-in-loop-k-2-1) in (
+    λ i h. c.requires.by_index i c.loop-k.k h (further (goal.at.loop-k-preserved c).After-slice_known-in-loop-k-2-1) in
+    let up = c.requires.by_index_2 _ (further (goal.at.loop-k-preserved c).After-slice_known-in-loop-k-2-1) in (
       search rules,
       (elim c.if-sums-s.branch [ then-sums-s w ↦ one_more _ _ _ _ _ _ _ _ _ known rises up s.0 t.0 t.1 w.along_edge.ensures
           (stored (omega (arith, t.1, known.has_sums)) w.sums-is) | else-sums-s w ↦ one_more _ _ _ _ _ _ _ _ _ known rises up s.0 t.0 t.1 (not_lower _ _ (omega (arith, w.if-sums-s.false))) (kept w.sums-is) ]),

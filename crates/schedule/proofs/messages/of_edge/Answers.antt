@@ -22,8 +22,7 @@ module _ (x : After-sent_along-sent) where
 
 pub sent_along-sent-requires : goal.sent_along-sent-requires
 sent_along-sent-requires c =
-    let given = c.requires in
-    let S = given.1 in record { k_in_bounds = (given.0.0, given.0.1); k_in_bounds_2 = (S.has_start, S.has_duration, S.has_processor); k_bound = S.in_time }
+    let S = c.requires.sender in record { k_in_bounds = (c.requires.k_in_bounds.0, c.requires.k_in_bounds.1); k_in_bounds_2 = (S.has_start, S.has_duration, S.has_processor); k_bound = S.in_time }
 
 pub bounds-costs-p : goal.bounds-costs-p
 bounds-costs-p c =
@@ -39,4 +38,4 @@ overflow_add-result c =
 
 pub returns : goal.returns
 returns c =
-    let r = c.sent_along-sent.ensures in record { sender_value = r.0; time_value = time_is (sender (goal.at.returns c).After-sent_along-sent) r.1.0 r.1.1.0; arrival_value = arrival_is (sender (goal.at.returns c).After-sent_along-sent) r.1.0 r.1.1.0 r.1.1.1 }
+    record { sender_value = c.sent_along-sent.ensures.sender_value; time_value = time_is (sender (goal.at.returns c).After-sent_along-sent) c.sent_along-sent.ensures.processor_value c.sent_along-sent.ensures.count_value; arrival_value = arrival_is (sender (goal.at.returns c).After-sent_along-sent) c.sent_along-sent.ensures.processor_value c.sent_along-sent.ensures.count_value c.sent_along-sent.ensures.finish_value }

@@ -15,13 +15,6 @@ module _ {s t : ℕ} (s-is : s ≡ t) where
   sum_same : (starts durations : List ℕ) → get_or starts s 0 + get_or durations s 0 ≡ get_or starts t 0 + get_or durations t 0
   sum_same starts durations = rw s-is
 
--- ---- the places, from where all is read
-
-module _ (x : After-shared_slice_known-10-1) where
-
-
-
-
 pub overflow_add-result : goal.overflow_add-result
 overflow_add-result c =
     let args = c.args in

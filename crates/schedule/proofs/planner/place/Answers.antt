@@ -63,11 +63,11 @@ send-requires c =
 
 pub skip-requires : goal.skip-requires
 skip-requires c =
-    let given = c.requires in (
-      given.0.low_most,
-      to_skip given.0 c.put.ensures.1.1.1
+    (
+      c.requires.to_place.low_most,
+      to_skip c.requires.to_place c.put.ensures.1.1.1
           c.send.auto.1.1.1.1.1.1.1.1.0,
-      given.1,
+      c.requires.order_in,
     )
 
 pub shape_of-starts : goal.shape_of-starts
@@ -96,6 +96,5 @@ shape_of-busy c =
 
 pub returns : goal.returns
 returns c =
-    let noted = c.put.ensures in
-    together c.requires.to_place noted.1.1.1 noted.0 noted.1.0 noted.1.1.0 c.send.ensures
+    together c.requires.to_place c.put.ensures.1.1.1 c.put.ensures.0 c.put.ensures.1.0 c.put.ensures.1.1.0 c.send.ensures
     c.skip.ensures

@@ -57,7 +57,7 @@ module _ (a : At-loop-low) where
 
   abbrev A : InArrays
   A = in_given_order a.args.order.now a.args.n a.args.tasks a.args.edges a.args.durations.now
-      a.args.from.now a.args.to.now a.args.counts.now a.args.t9
+      a.args.from.now a.args.to.now a.args.counts.now a.args.costs
 
   abbrev given : Plannable A
   given = a.requires.plannable
@@ -123,15 +123,15 @@ slice_bounds-look-end-in-loop-low-3 c =
 
 pub look-choice-requires : goal.look-choice-requires
 look-choice-requires c =
-    let Y = c.loop-low.invariant.1 in record { n_bound = ((given (goal.at.look-choice-requires c).After-counts-waiting).few_processors, clock_small (given (goal.at.look-choice-requires c).After-counts-waiting) (room (goal.at.look-choice-requires c).After-counts-waiting) Y, le_of_lt (remain (goal.at.look-choice-requires c).At-loop-low), (given (goal.at.look-choice-requires c).After-counts-waiting).few_tasks); busy_len = (Y.busy_size, Y.waiting_size, Y.latest_size, arrivals_room (given (goal.at.look-choice-requires c).After-counts-waiting) (room (goal.at.look-choice-requires c).After-counts-waiting) Y); order_in = (ordered (goal.at.look-choice-requires c).After-counts-waiting, c.loop-low.invariant.0) }
+    let Y = c.loop-low.invariant.1 in record { n_bound = ((given (goal.at.look-choice-requires c).At-loop-low).few_processors, clock_small (given (goal.at.look-choice-requires c).At-loop-low) (room (goal.at.look-choice-requires c).At-loop-low) Y, le_of_lt (remain (goal.at.look-choice-requires c).In-loop-low), (given (goal.at.look-choice-requires c).At-loop-low).few_tasks); busy_len = (Y.busy_size, Y.waiting_size, Y.latest_size, arrivals_room (given (goal.at.look-choice-requires c).At-loop-low) (room (goal.at.look-choice-requires c).At-loop-low) Y); order_in = (ordered (goal.at.look-choice-requires c).At-loop-low, c.loop-low.invariant.0) }
 
 pub slice_bounds-finish-end : goal.slice_bounds-finish-end
 slice_bounds-finish-end c =
-    sym (edge_runs (goal.at.slice_bounds-finish-end c).After-counts-waiting).size
+    sym (edge_runs (goal.at.slice_bounds-finish-end c).At-loop-low).size
 
 pub finish-done-requires : goal.finish-done-requires
 finish-done-requires c =
-    let there = below_length ℕ c.args.durations.now _ 256 (given (goal.at.finish-done-requires c).After-counts-waiting).durations_size (small (goal.at.finish-done-requires c).Then-pair-next) in record { task_in_bounds = (there, small (goal.at.finish-done-requires c).Then-pair-next, (edge_runs (goal.at.finish-done-requires c).After-counts-waiting).size); task_bound = finish_low (goal.at.finish-done-requires c).Then-pair-next }
+    let there = below_length ℕ c.args.durations.now _ 256 (given (goal.at.finish-done-requires c).At-loop-low).durations_size (small (goal.at.finish-done-requires c).Then-pair-next) in record { task_in_bounds = (there, small (goal.at.finish-done-requires c).Then-pair-next, (edge_runs (goal.at.finish-done-requires c).At-loop-low).size); task_bound = finish_low (goal.at.finish-done-requires c).Then-pair-next }
 
 pub slice_bounds-place-end : goal.slice_bounds-place-end
 slice_bounds-place-end c =
@@ -147,33 +147,32 @@ slice_bounds-place-end-then-pair-next-2 c =
 
 pub place-low-requires : goal.place-low-requires
 place-low-requires c =
-    let done = c.finish-done.ensures in record { to_place = asked_of done.1.0 done.1.1
-          (to_place (given (goal.at.place-low-requires c).After-counts-waiting) (room (goal.at.place-low-requires c).After-counts-waiting) c.loop-low.invariant.1 (remain (goal.at.place-low-requires c).At-loop-low) c.look-choice.ensures (in_time (goal.at.place-low-requires c).Then-pair-next) (edge_runs (goal.at.place-low-requires c).After-counts-waiting) done.0); order_in = ordered (goal.at.place-low-requires c).After-counts-waiting }
+    record { to_place = asked_of c.finish-done.ensures.first_value c.finish-done.ensures.last_value
+          (to_place (given (goal.at.place-low-requires c).At-loop-low) (room (goal.at.place-low-requires c).At-loop-low) c.loop-low.invariant.1 (remain (goal.at.place-low-requires c).In-loop-low) c.look-choice.ensures (in_time (goal.at.place-low-requires c).Then-pair-next) (edge_runs (goal.at.place-low-requires c).At-loop-low) c.finish-done.ensures.finish_value); order_in = ordered (goal.at.place-low-requires c).At-loop-low }
 
 pub overflow_add-rounds : goal.overflow_add-rounds
 overflow_add-rounds c =
-    Fits-below tt (rounds_small _ _ (more_rounds (given (goal.at.overflow_add-rounds c).After-counts-waiting) (room (goal.at.overflow_add-rounds c).After-counts-waiting) c.loop-low.invariant.1 (remain (goal.at.overflow_add-rounds c).At-loop-low)) (given (goal.at.overflow_add-rounds c).After-counts-waiting).few_tasks)
+    Fits-below tt (rounds_small _ _ (more_rounds (given (goal.at.overflow_add-rounds c).At-loop-low) (room (goal.at.overflow_add-rounds c).At-loop-low) c.loop-low.invariant.1 (remain (goal.at.overflow_add-rounds c).In-loop-low)) (given (goal.at.overflow_add-rounds c).At-loop-low).few_tasks)
 
 pub loop-low-smaller : goal.loop-low-smaller
 loop-low-smaller c =
-    rounds_left _ _ (more_rounds (given (goal.at.loop-low-smaller c).After-counts-waiting) (room (goal.at.loop-low-smaller c).After-counts-waiting) c.loop-low.invariant.1 (remain (goal.at.loop-low-smaller c).At-loop-low))
+    rounds_left _ _ (more_rounds (given (goal.at.loop-low-smaller c).At-loop-low) (room (goal.at.loop-low-smaller c).At-loop-low) c.loop-low.invariant.1 (remain (goal.at.loop-low-smaller c).In-loop-low))
 
 pub loop-low-preserved : goal.loop-low-preserved
 loop-low-preserved c =
     let found = c.look-choice.ensures in
-    let runs = edge_runs (goal.at.loop-low-preserved c).After-counts-waiting in (
+    let runs = edge_runs (goal.at.loop-low-preserved c).At-loop-low in (
       c.look-choice.auto.free ∙ c.loop-low.invariant.0,
-      (elim c.if-pair-next.branch [ then-pair-next+then-end-done w ↦ let done = w.finish-done.ensures in
+      (elim c.if-pair-next.branch [ then-pair-next+then-end-done w ↦ let kept = w.place-low.kept.1.1.1.1.1.1.1.1.1.1.1.1.1 in
+          carried
+          (holds_placed (given (goal.at.loop-low-preserved c).At-loop-low) (room (goal.at.loop-low-preserved c).At-loop-low) c.loop-low.invariant.1 (remain (goal.at.loop-low-preserved c).In-loop-low) found (omega (arith, w.if-pair-next.true)) runs w.finish-done.ensures.finish_value
+          (placed_of w.finish-done.ensures.first_value w.finish-done.ensures.last_value w.place-low.ensures) (later _ _ w.if-end-done.true) kept.0 kept.1.0 kept.1.1.0)
+          w.starts-is w.processors-is w.arrivals-is w.waiting-is w.latest-is w.busy-is w.clock-is w.end-is w.low-is | then-pair-next+else-end-done w ↦ let w.finish-done.ensures = w.finish-done.ensures in
           let kept = w.place-low.kept.1.1.1.1.1.1.1.1.1.1.1.1.1 in
           carried
-          (holds_placed (given (goal.at.loop-low-preserved c).After-counts-waiting) (room (goal.at.loop-low-preserved c).After-counts-waiting) c.loop-low.invariant.1 (remain (goal.at.loop-low-preserved c).At-loop-low) found (omega (arith, w.if-pair-next.true)) runs done.0
-          (placed_of done.1.0 done.1.1 w.place-low.ensures) (later _ _ w.if-end-done.true) kept.0 kept.1.0 kept.1.1.0)
-          w.starts-is w.processors-is w.arrivals-is w.waiting-is w.latest-is w.busy-is w.clock-is w.end-is w.low-is | then-pair-next+else-end-done w ↦ let done = w.finish-done.ensures in
-          let kept = w.place-low.kept.1.1.1.1.1.1.1.1.1.1.1.1.1 in
-          carried
-          (holds_placed (given (goal.at.loop-low-preserved c).After-counts-waiting) (room (goal.at.loop-low-preserved c).After-counts-waiting) c.loop-low.invariant.1 (remain (goal.at.loop-low-preserved c).At-loop-low) found (omega (arith, w.if-pair-next.true)) runs done.0
-          (placed_of done.1.0 done.1.1 w.place-low.ensures) (not_later _ _ w.if-end-done.false) kept.0 kept.1.0 kept.1.1.0)
-          w.starts-is w.processors-is w.arrivals-is w.waiting-is w.latest-is w.busy-is w.clock-is w.end-is w.low-is | else-pair-next w ↦ carried (holds_moved (given (goal.at.loop-low-preserved c).After-counts-waiting) (room (goal.at.loop-low-preserved c).After-counts-waiting) c.loop-low.invariant.1 (remain (goal.at.loop-low-preserved c).At-loop-low) found (omega (arith, w.if-pair-next.false)))
+          (holds_placed (given (goal.at.loop-low-preserved c).At-loop-low) (room (goal.at.loop-low-preserved c).At-loop-low) c.loop-low.invariant.1 (remain (goal.at.loop-low-preserved c).In-loop-low) found (omega (arith, w.if-pair-next.true)) runs w.finish-done.ensures.finish_value
+          (placed_of w.finish-done.ensures.first_value w.finish-done.ensures.last_value w.place-low.ensures) (not_later _ _ w.if-end-done.false) kept.0 kept.1.0 kept.1.1.0)
+          w.starts-is w.processors-is w.arrivals-is w.waiting-is w.latest-is w.busy-is w.clock-is w.end-is w.low-is | else-pair-next w ↦ carried (holds_moved (given (goal.at.loop-low-preserved c).At-loop-low) (room (goal.at.loop-low-preserved c).At-loop-low) c.loop-low.invariant.1 (remain (goal.at.loop-low-preserved c).In-loop-low) found (omega (arith, w.if-pair-next.false)))
           w.starts-is w.processors-is w.arrivals-is w.waiting-is w.latest-is w.busy-is w.clock-is w.end-is w.low-is ]),
     )
 

@@ -74,7 +74,7 @@ pub record Going (first last finish n : ℕ) (row to counts : List ℕ) (B B₁ 
   pub sent : Sent first k finish n row to counts B B₁
 
 abbrev pub invariant-loop-k : goal.invariant-loop-k
-invariant-loop-k l = Going l.first l.last l.finish l.processors l.row l.to l.counts (inbox l.initial.arrivals l.initial.waiting l.initial.latest) (inbox l.arrivals l.waiting l.latest) l.k
+invariant-loop-k l = Going l.first l.last l.finish l.n l.row l.to l.counts (inbox l.initial.arrivals l.initial.waiting l.initial.latest) (inbox l.arrivals l.waiting l.latest) l.k
 
 abbrev pub decreases-loop-k : goal.decreases-loop-k
 decreases-loop-k l = l.last - l.k

@@ -16,7 +16,7 @@ pub record Going (busy : List ℕ) (n clock : ℕ) (free : List ℕ) (next count
   pub listed : values (λ i. get_or free i 0) 0 count ≡ free_among busy clock p
 
 abbrev pub invariant-loop-p : goal.invariant-loop-p
-invariant-loop-p l = Going l.busy l.processors l.clock l.free l.next l.count l.p
+invariant-loop-p l = Going l.busy l.n l.clock l.free l.next l.count l.p
 
 abbrev pub decreases-loop-p : goal.decreases-loop-p
-decreases-loop-p l = l.processors - l.p
+decreases-loop-p l = l.n - l.p

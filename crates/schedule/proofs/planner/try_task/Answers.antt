@@ -24,5 +24,4 @@ row_is clock arrivals free k T t room low =
 
 pub returns : goal.returns
 returns c =
-    let pre = c.requires in
-    c.try_row.ensures ∙ ap (first_best _) (row_is _ _ _ _ _ pre.0.0 pre.0.1 pre.1.0)
+    c.try_row.ensures ∙ ap (first_best _) (row_is _ _ _ _ _ c.requires.task_bound.0 c.requires.task_bound.1 c.requires.by_index.0)

@@ -34,12 +34,12 @@ loop-t-init c =
 
 pub try_task-best-requires : goal.try_task-best-requires
 try_task-best-requires c =
-    let asked = c.requires in record { n_bound = (
-        asked.0.3,
+    record { n_bound = (
+        c.requires.clock_bound.3,
         c.loop-t.invariant.1,
-        walkable _ _ c.args.first.now _ _ _ c.loop-t.t c.index16.result asked.1.1.1 (search rules)
+        walkable _ _ c.args.first.now _ _ _ c.loop-t.t c.index16.result c.requires.by_index (search rules)
             c.if-waiting-t-eq0.true c.if-scratch-t.true c.index16.ensures,
-      ); count_in_bounds = asked.1.1.0 }
+      ); count_in_bounds = c.requires.count_in_bounds }
 
 pub returns-then-best-clock : goal.returns-then-best-clock
 returns-then-best-clock c =

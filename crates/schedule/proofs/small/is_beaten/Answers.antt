@@ -41,24 +41,22 @@ sent-bundle-requires c =
 
 pub is_late-requires : goal.is_late-requires
 is_late-requires c =
-    let e = c.sent-bundle.ensures in
-    let K = known_into _ _ _ _ (walkable (goal.at.is_late-requires c).After-shared_slice_known-7-1) _ c.loop-k.invariant c.loop-k-test.true in record { row_len = (sent_row (held (goal.at.is_late-requires c).After-shared_slice_known-7-1) _ _ _ _ e.0 e.1.0 e.1.1 K, c.requires.count_in_bounds.0, c.requires.count_in_bounds.1); finish_le_most_finish = sent_in_time (held (goal.at.is_late-requires c).After-shared_slice_known-7-1) _ _ _ _ e.0 e.1.0 e.1.1 K }
+    let K = known_into _ _ _ _ (walkable (goal.at.is_late-requires c).At-loop-k) _ c.loop-k.invariant c.loop-k-test.true in record { row_len = (sent_row (held (goal.at.is_late-requires c).At-loop-k) _ _ _ _ c.sent-bundle.ensures.0 c.sent-bundle.ensures.1.0 c.sent-bundle.ensures.1.1 K, c.requires.count_in_bounds.0, c.requires.count_in_bounds.1); finish_le_most_finish = sent_in_time (held (goal.at.is_late-requires c).At-loop-k) _ _ _ _ c.sent-bundle.ensures.0 c.sent-bundle.ensures.1.0 c.sent-bundle.ensures.1.1 K }
 
 pub returns-then-is_late : goal.returns-then-is_late
 returns-then-is_late c =
-    let e = c.sent-bundle.ensures in
     λ _. beaten _ _ _ _ _ _ c.sent-bundle.result.row c.args.free.now _
     c.loop-k.invariant c.loop-k-test.true
-    (sent_at_lem (held (goal.at.returns-then-is_late c).After-shared_slice_known-7-1) _ _ _ _ e.0 e.1.0 e.1.1) (c.is_late.ensures c.if-is_late.true)
+    (sent_at_lem (held (goal.at.returns-then-is_late c).At-loop-k) _ _ _ _ c.sent-bundle.ensures.0 c.sent-bundle.ensures.1.0 c.sent-bundle.ensures.1.1) (c.is_late.ensures c.if-is_late.true)
 
 pub loop-k-smaller : goal.loop-k-smaller
 loop-k-smaller c =
-    let less = next_less _ _ _ _ (walkable (goal.at.loop-k-smaller c).After-shared_slice_known-7-1) _ c.loop-k.invariant c.loop-k-test.true in
+    let less = next_less _ _ _ _ (walkable (goal.at.loop-k-smaller c).At-loop-k) _ c.loop-k.invariant c.loop-k-test.true in
     rw c.index16-k.ensures less
 
 pub loop-k-preserved : goal.loop-k-preserved
 loop-k-preserved c =
-    rw c.index16-k.ensures (into_next _ _ _ _ (walkable (goal.at.loop-k-preserved c).After-shared_slice_known-7-1) _ c.loop-k.invariant c.loop-k-test.true)
+    rw c.index16-k.ensures (into_next _ _ _ _ (walkable (goal.at.loop-k-preserved c).At-loop-k) _ c.loop-k.invariant c.loop-k-test.true)
 
 pub returns : goal.returns
 returns c =

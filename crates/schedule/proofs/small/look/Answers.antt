@@ -25,8 +25,7 @@ looked {busy = busy} {clock = clock} surveyed e next found = record {
 
 pub choose-pair-requires : goal.choose-pair-requires
 choose-pair-requires c =
-    let surveyed = c.survey-moment.ensures in
-    let asked = c.requires in record { clock_bound = asked.0; first_len = (asked.1.0.0, asked.1.0.2, asked.1.0.3); count_in_bounds = (omega (arith, surveyed.few, asked.0.3, c.survey-moment.auto.free), free_below _ _ _ _ _ surveyed); by_index = asked.1.1 }
+    let surveyed = c.survey-moment.ensures in record { clock_bound = c.requires.clock_bound; first_len = (c.requires.first_len.0, c.requires.first_len.2, c.requires.first_len.3); count_in_bounds = (omega (arith, surveyed.few, c.requires.clock_bound.3, c.survey-moment.auto.free), free_below _ _ _ _ _ surveyed); by_index = c.requires.by_index }
 
 pub returns : goal.returns
 returns c =

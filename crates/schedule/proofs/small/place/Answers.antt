@@ -66,5 +66,4 @@ shape_of-scratch c =
 
 pub returns : goal.returns
 returns c =
-    let noted = c.put.ensures in
-    together c.requires noted.1.1.1 noted.0 noted.1.0 noted.1.1.0 c.tell.ensures c.skip.ensures
+    together c.requires c.put.ensures.1.1.1 c.put.ensures.0 c.put.ensures.1.0 c.put.ensures.1.1.0 c.tell.ensures c.skip.ensures

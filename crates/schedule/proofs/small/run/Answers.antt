@@ -124,15 +124,15 @@ slice_bounds-look-end-in-loop-low-3 c =
 
 pub look-choice-requires : goal.look-choice-requires
 look-choice-requires c =
-    let Y = c.loop-low.invariant in record { clock_bound = (clock_low (given (goal.at.look-choice-requires c).After-lists) (room (goal.at.look-choice-requires c).After-lists) Y, le_of_lt (remain (goal.at.look-choice-requires c).After-counts-waiting), (given (goal.at.look-choice-requires c).After-lists).few_tasks, (given (goal.at.look-choice-requires c).After-lists).few_processors); first_len = ((edge_lists (goal.at.look-choice-requires c).After-lists).first_size, Y.inner.busy_size, Y.inner.waiting_size, omega (arith, Y.scratch_size, (room (goal.at.look-choice-requires c).After-lists).for_scratch)); by_index = to_look (given (goal.at.look-choice-requires c).After-lists) (room (goal.at.look-choice-requires c).After-lists) Y {before = replicate 1024 0} (edge_lists (goal.at.look-choice-requires c).After-lists) }
+    let Y = c.loop-low.invariant in record { clock_bound = (clock_low (given (goal.at.look-choice-requires c).At-loop-low) (room (goal.at.look-choice-requires c).At-loop-low) Y, le_of_lt (remain (goal.at.look-choice-requires c).In-loop-low), (given (goal.at.look-choice-requires c).At-loop-low).few_tasks, (given (goal.at.look-choice-requires c).At-loop-low).few_processors); first_len = ((edge_lists (goal.at.look-choice-requires c).At-loop-low).first_size, Y.inner.busy_size, Y.inner.waiting_size, omega (arith, Y.scratch_size, (room (goal.at.look-choice-requires c).At-loop-low).for_scratch)); by_index = to_look (given (goal.at.look-choice-requires c).At-loop-low) (room (goal.at.look-choice-requires c).At-loop-low) Y {before = replicate 1024 0} (edge_lists (goal.at.look-choice-requires c).At-loop-low) }
 
 pub slice_bounds-finish-end : goal.slice_bounds-finish-end
 slice_bounds-finish-end c =
-    sym (edge_runs (goal.at.slice_bounds-finish-end c).After-lists).size
+    sym (edge_runs (goal.at.slice_bounds-finish-end c).At-loop-low).size
 
 pub finish-done-requires : goal.finish-done-requires
 finish-done-requires c =
-    let there = below_length ℕ c.args.durations.now _ 256 (given (goal.at.finish-done-requires c).After-lists).durations_size (small (goal.at.finish-done-requires c).Then-pair-moment) in record { task_in_bounds = (there, small (goal.at.finish-done-requires c).Then-pair-moment, (edge_runs (goal.at.finish-done-requires c).After-lists).size); task_bound = finish_by (goal.at.finish-done-requires c).Then-pair-moment }
+    let there = below_length ℕ c.args.durations.now _ 256 (given (goal.at.finish-done-requires c).At-loop-low).durations_size (small (goal.at.finish-done-requires c).Then-pair-moment) in record { task_in_bounds = (there, small (goal.at.finish-done-requires c).Then-pair-moment, (edge_runs (goal.at.finish-done-requires c).At-loop-low).size); task_bound = finish_by (goal.at.finish-done-requires c).Then-pair-moment }
 
 pub slice_bounds-place-end : goal.slice_bounds-place-end
 slice_bounds-place-end c =
@@ -144,33 +144,31 @@ slice_bounds-place-end-then-pair-moment c =
 
 pub place-low-requires : goal.place-low-requires
 place-low-requires c =
-    let done = c.finish-done.ensures in
-    asked_of done.1.0 done.1.1
-    (to_enter (given (goal.at.place-low-requires c).After-lists) (room (goal.at.place-low-requires c).After-lists) c.loop-low.invariant c.look-choice.ensures (remain (goal.at.place-low-requires c).After-counts-waiting) (in_time (goal.at.place-low-requires c).Then-pair-moment) (edge_runs (goal.at.place-low-requires c).After-lists) done.0)
+    asked_of c.finish-done.ensures.first_value c.finish-done.ensures.last_value
+    (to_enter (given (goal.at.place-low-requires c).At-loop-low) (room (goal.at.place-low-requires c).At-loop-low) c.loop-low.invariant c.look-choice.ensures (remain (goal.at.place-low-requires c).In-loop-low) (in_time (goal.at.place-low-requires c).Then-pair-moment) (edge_runs (goal.at.place-low-requires c).At-loop-low) c.finish-done.ensures.finish_value)
 
 pub overflow_add-rounds : goal.overflow_add-rounds
 overflow_add-rounds c =
-    Fits-below tt (rounds_small _ _ (rounds_low (given (goal.at.overflow_add-rounds c).After-lists) (room (goal.at.overflow_add-rounds c).After-lists) c.loop-low.invariant (remain (goal.at.overflow_add-rounds c).After-counts-waiting)) (given (goal.at.overflow_add-rounds c).After-lists).few_tasks)
+    Fits-below tt (rounds_small _ _ (rounds_low (given (goal.at.overflow_add-rounds c).At-loop-low) (room (goal.at.overflow_add-rounds c).At-loop-low) c.loop-low.invariant (remain (goal.at.overflow_add-rounds c).In-loop-low)) (given (goal.at.overflow_add-rounds c).At-loop-low).few_tasks)
 
 pub loop-low-smaller : goal.loop-low-smaller
 loop-low-smaller c =
-    rounds_left _ _ (rounds_low (given (goal.at.loop-low-smaller c).After-lists) (room (goal.at.loop-low-smaller c).After-lists) c.loop-low.invariant (remain (goal.at.loop-low-smaller c).After-counts-waiting))
+    rounds_left _ _ (rounds_low (given (goal.at.loop-low-smaller c).At-loop-low) (room (goal.at.loop-low-smaller c).At-loop-low) c.loop-low.invariant (remain (goal.at.loop-low-smaller c).In-loop-low))
 
 pub loop-low-preserved : goal.loop-low-preserved
 loop-low-preserved c =
     let found = c.look-choice.ensures in
-    let runs = edge_runs (goal.at.loop-low-preserved c).After-lists in
-    (elim c.if-pair-moment.branch [ then-pair-moment+then-end-done w ↦ let done = w.finish-done.ensures in
+    let runs = edge_runs (goal.at.loop-low-preserved c).At-loop-low in
+    (elim c.if-pair-moment.branch [ then-pair-moment+then-end-done w ↦ let kept = w.place-low.kept.1.1.1.1.1.1.1.1.1.1 in
+    carried
+    (follows_placed (given (goal.at.loop-low-preserved c).At-loop-low) (room (goal.at.loop-low-preserved c).At-loop-low) c.loop-low.invariant found (remain (goal.at.loop-low-preserved c).In-loop-low) (omega (arith, w.if-pair-moment.true)) runs w.finish-done.ensures.finish_value
+    (entered_of w.finish-done.ensures.first_value w.finish-done.ensures.last_value w.place-low.ensures) (later _ _ w.if-end-done.true) kept.0 kept.1.0)
+    w.starts-is w.processors-is w.scratch-is w.waiting-is w.busy-is w.clock-is w.end-is w.low-is | then-pair-moment+else-end-done w ↦ let w.finish-done.ensures = w.finish-done.ensures in
     let kept = w.place-low.kept.1.1.1.1.1.1.1.1.1.1 in
     carried
-    (follows_placed (given (goal.at.loop-low-preserved c).After-lists) (room (goal.at.loop-low-preserved c).After-lists) c.loop-low.invariant found (remain (goal.at.loop-low-preserved c).After-counts-waiting) (omega (arith, w.if-pair-moment.true)) runs done.0
-    (entered_of done.1.0 done.1.1 w.place-low.ensures) (later _ _ w.if-end-done.true) kept.0 kept.1.0)
-    w.starts-is w.processors-is w.scratch-is w.waiting-is w.busy-is w.clock-is w.end-is w.low-is | then-pair-moment+else-end-done w ↦ let done = w.finish-done.ensures in
-    let kept = w.place-low.kept.1.1.1.1.1.1.1.1.1.1 in
-    carried
-    (follows_placed (given (goal.at.loop-low-preserved c).After-lists) (room (goal.at.loop-low-preserved c).After-lists) c.loop-low.invariant found (remain (goal.at.loop-low-preserved c).After-counts-waiting) (omega (arith, w.if-pair-moment.true)) runs done.0
-    (entered_of done.1.0 done.1.1 w.place-low.ensures) (not_later _ _ w.if-end-done.false) kept.0 kept.1.0)
-    w.starts-is w.processors-is w.scratch-is w.waiting-is w.busy-is w.clock-is w.end-is w.low-is | else-pair-moment w ↦ carried (follows_moved (given (goal.at.loop-low-preserved c).After-lists) (room (goal.at.loop-low-preserved c).After-lists) c.loop-low.invariant found (remain (goal.at.loop-low-preserved c).After-counts-waiting) (omega (arith, w.if-pair-moment.false)))
+    (follows_placed (given (goal.at.loop-low-preserved c).At-loop-low) (room (goal.at.loop-low-preserved c).At-loop-low) c.loop-low.invariant found (remain (goal.at.loop-low-preserved c).In-loop-low) (omega (arith, w.if-pair-moment.true)) runs w.finish-done.ensures.finish_value
+    (entered_of w.finish-done.ensures.first_value w.finish-done.ensures.last_value w.place-low.ensures) (not_later _ _ w.if-end-done.false) kept.0 kept.1.0)
+    w.starts-is w.processors-is w.scratch-is w.waiting-is w.busy-is w.clock-is w.end-is w.low-is | else-pair-moment w ↦ carried (follows_moved (given (goal.at.loop-low-preserved c).At-loop-low) (room (goal.at.loop-low-preserved c).At-loop-low) c.loop-low.invariant found (remain (goal.at.loop-low-preserved c).In-loop-low) (omega (arith, w.if-pair-moment.false)))
     w.starts-is w.processors-is w.scratch-is w.waiting-is w.busy-is w.clock-is w.end-is w.low-is ])
 
 pub shape_of-starts : goal.shape_of-starts

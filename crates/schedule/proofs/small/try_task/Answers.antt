@@ -38,7 +38,7 @@ arrival start =
 
 pub is_beaten-requires : goal.is_beaten-requires
 is_beaten-requires c =
-    let pre = c.requires in record { walkable = pre.0.2; count_in_bounds = (pre.1.0, few _ _ c.args.free.now pre.0.0 pre.1.1) }
+    record { walkable = c.requires.n_bound.2; count_in_bounds = (c.requires.count_in_bounds.0, few _ _ c.args.free.now c.requires.n_bound.0 c.requires.count_in_bounds.1) }
 
 pub returns-then-is_beaten : goal.returns-then-is_beaten
 returns-then-is_beaten c =
@@ -46,7 +46,7 @@ returns-then-is_beaten c =
 
 pub try_row-requires : goal.try_row-requires
 try_row-requires c =
-    let pre = c.requires in record { in_bounds = (search rules, pre.1.0); by_index = (few _ _ c.args.free.now pre.0.0 pre.1.1, pre.0.1) }
+    let pre = (c.requires.n_bound, c.requires.count_in_bounds) in record { in_bounds = (search rules, pre.1.0); by_index = (few _ _ c.args.free.now pre.0.0 pre.1.1, pre.0.1) }
 
 pub returns : goal.returns
 returns c =

@@ -69,19 +69,17 @@ sent-bundle-requires c =
 
 pub raise-requires : goal.raise-requires
 raise-requires c =
-    let e = c.sent-bundle.ensures in
-    let K = known_into _ _ _ _ (walkable (goal.at.raise-requires c).After-shared_slice_known-6-1) _ c.loop-edge.invariant.into (left (goal.at.raise-requires c).At-loop-edge) in record { task_bound = (search rules, search rules, search rules, sent_row (held (goal.at.raise-requires c).After-shared_slice_known-6-1) _ _ _ _ e.0 e.1.0 e.1.1 K); finish_le_most_finish = sent_in_time (held (goal.at.raise-requires c).After-shared_slice_known-6-1) _ _ _ _ e.0 e.1.0 e.1.1 K }
+    let K = known_into _ _ _ _ (walkable (goal.at.raise-requires c).At-loop-edge) _ c.loop-edge.invariant.into (left (goal.at.raise-requires c).In-loop-edge) in record { task_bound = (search rules, search rules, search rules, sent_row (held (goal.at.raise-requires c).At-loop-edge) _ _ _ _ c.sent-bundle.ensures.0 c.sent-bundle.ensures.1.0 c.sent-bundle.ensures.1.1 K); finish_le_most_finish = sent_in_time (held (goal.at.raise-requires c).At-loop-edge) _ _ _ _ c.sent-bundle.ensures.0 c.sent-bundle.ensures.1.0 c.sent-bundle.ensures.1.1 K }
 
 pub loop-edge-smaller : goal.loop-edge-smaller
 loop-edge-smaller c =
-    let less = next_less _ _ _ _ (walkable (goal.at.loop-edge-smaller c).After-shared_slice_known-6-1) _ c.loop-edge.invariant.into (left (goal.at.loop-edge-smaller c).At-loop-edge) in
+    let less = next_less _ _ _ _ (walkable (goal.at.loop-edge-smaller c).At-loop-edge) _ c.loop-edge.invariant.into (left (goal.at.loop-edge-smaller c).In-loop-edge) in
     rw c.index16-edge.ensures less
 
 pub loop-edge-preserved : goal.loop-edge-preserved
 loop-edge-preserved c =
-    let e = c.sent-bundle.ensures in
-    turn _ _ _ _ _ (walkable (goal.at.loop-edge-preserved c).After-shared_slice_known-6-1) _ _ _ _ _ _ _ c.loop-edge.invariant (left (goal.at.loop-edge-preserved c).At-loop-edge)
-    (sent_at_lem (held (goal.at.loop-edge-preserved c).After-shared_slice_known-6-1) _ _ _ _ e.0 e.1.0 e.1.1) c.raise.ensures c.raise.auto.arrivals c.index16-edge.ensures
+    turn _ _ _ _ _ (walkable (goal.at.loop-edge-preserved c).At-loop-edge) _ _ _ _ _ _ _ c.loop-edge.invariant (left (goal.at.loop-edge-preserved c).In-loop-edge)
+    (sent_at_lem (held (goal.at.loop-edge-preserved c).At-loop-edge) _ _ _ _ c.sent-bundle.ensures.0 c.sent-bundle.ensures.1.0 c.sent-bundle.ensures.1.1) c.raise.ensures c.raise.auto.arrivals c.index16-edge.ensures
 
 pub returns : goal.returns
 returns c =

@@ -16,7 +16,7 @@ pub record Going (S : Sources) (T n : ℕ) (row : List ℕ) (k : ℕ) : Type 0 w
   pub so_far : (P : ℕ) → P < n → get_or row P 0 ≡ most k (sent_for S T P)
 
 abbrev pub invariant-loop-edge : goal.invariant-loop-edge
-invariant-loop-edge l = Going (sources l.edges l.from l.to l.counts l.costs l.processors l.scratch) l.task l.n l.row l.k
+invariant-loop-edge l = Going (sources l.edges l.from l.to l.counts l.costs l.processors l.scratch) l.task l.n l.row l.edge
 
 abbrev pub decreases-loop-edge : goal.decreases-loop-edge
-decreases-loop-edge l = l.edges - l.k
+decreases-loop-edge l = l.edges - l.edge

@@ -222,7 +222,7 @@ module _ {A : InArrays} (F : Plannable A) {starts processors : List ℕ} (H : Ho
           (short_by I ps (count_trailing_zeros 32 set) tick i.0 i.1)
           (λ Q r q k n.
           running_busy Q r
-          (B.Runs-after Q r (omega (arith, has_processors)) (omega (arith, tick_there.0)) (omega (arith, start_is T h))))
+          (B.runs_after Q r (omega (arith, has_processors)) (omega (arith, tick_there.0)) (omega (arith, start_is T h))))
 
       pub lowest_idle_lem : lowest_idle I ps tick ≡ some (count_trailing_zeros 32 set)
       lowest_idle_lem =
