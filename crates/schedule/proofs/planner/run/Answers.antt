@@ -167,8 +167,7 @@ loop-low-preserved c =
           carried
           (holds_placed (given (goal.at.loop-low-preserved c).At-loop-low) (room (goal.at.loop-low-preserved c).At-loop-low) c.loop-low.invariant.1 (remain (goal.at.loop-low-preserved c).In-loop-low) found (omega (arith, w.if-pair-next.true)) runs w.finish-done.ensures.finish_value
           (placed_of w.finish-done.ensures.first_value w.finish-done.ensures.last_value w.place-low.ensures) (later _ _ w.if-end-done.true) kept.0 kept.1.0 kept.1.1.0)
-          w.starts-is w.processors-is w.arrivals-is w.waiting-is w.latest-is w.busy-is w.clock-is w.end-is w.low-is | then-pair-next+else-end-done w ↦ let w.finish-done.ensures = w.finish-done.ensures in
-          let kept = w.place-low.kept.1.1.1.1.1.1.1.1.1.1.1.1.1 in
+          w.starts-is w.processors-is w.arrivals-is w.waiting-is w.latest-is w.busy-is w.clock-is w.end-is w.low-is | then-pair-next+else-end-done w ↦ let kept = w.place-low.kept.1.1.1.1.1.1.1.1.1.1.1.1.1 in
           carried
           (holds_placed (given (goal.at.loop-low-preserved c).At-loop-low) (room (goal.at.loop-low-preserved c).At-loop-low) c.loop-low.invariant.1 (remain (goal.at.loop-low-preserved c).In-loop-low) found (omega (arith, w.if-pair-next.true)) runs w.finish-done.ensures.finish_value
           (placed_of w.finish-done.ensures.first_value w.finish-done.ensures.last_value w.place-low.ensures) (not_later _ _ w.if-end-done.false) kept.0 kept.1.0 kept.1.1.0)

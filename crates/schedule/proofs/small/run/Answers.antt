@@ -163,8 +163,7 @@ loop-low-preserved c =
     carried
     (follows_placed (given (goal.at.loop-low-preserved c).At-loop-low) (room (goal.at.loop-low-preserved c).At-loop-low) c.loop-low.invariant found (remain (goal.at.loop-low-preserved c).In-loop-low) (omega (arith, w.if-pair-moment.true)) runs w.finish-done.ensures.finish_value
     (entered_of w.finish-done.ensures.first_value w.finish-done.ensures.last_value w.place-low.ensures) (later _ _ w.if-end-done.true) kept.0 kept.1.0)
-    w.starts-is w.processors-is w.scratch-is w.waiting-is w.busy-is w.clock-is w.end-is w.low-is | then-pair-moment+else-end-done w ↦ let w.finish-done.ensures = w.finish-done.ensures in
-    let kept = w.place-low.kept.1.1.1.1.1.1.1.1.1.1 in
+    w.starts-is w.processors-is w.scratch-is w.waiting-is w.busy-is w.clock-is w.end-is w.low-is | then-pair-moment+else-end-done w ↦ let kept = w.place-low.kept.1.1.1.1.1.1.1.1.1.1 in
     carried
     (follows_placed (given (goal.at.loop-low-preserved c).At-loop-low) (room (goal.at.loop-low-preserved c).At-loop-low) c.loop-low.invariant found (remain (goal.at.loop-low-preserved c).In-loop-low) (omega (arith, w.if-pair-moment.true)) runs w.finish-done.ensures.finish_value
     (entered_of w.finish-done.ensures.first_value w.finish-done.ensures.last_value w.place-low.ensures) (not_later _ _ w.if-end-done.false) kept.0 kept.1.0)
