@@ -15,15 +15,10 @@ use Rattle.schedule.proofs.cover_by.Goals as goal
 abbrev answer : Ties → Job → Covered
 answer ties j = Cover (figures (instance_by ties j))
 
--- ---- the places
-
-abbrev ties-of : tie.After-read → Ties
-ties-of r = r.before.before.before.before.before.args.ties
-
 pub returns-in_default : goal.returns-in_default
 unfolding cover_call_by
 returns-in_default c =
-    let ties = ties-of (goal.at.returns-in_default c).After-read-r in
+    let ties = c.args.ties in
     passes_on _ c.read-r.ensures c.in_default.is c.number.ensures
     arrival_places Refused (plan_by (instance_by ties) (answer ties)) _ _ _
 
@@ -35,7 +30,7 @@ lay_out-laid-requires c =
 pub returns-in_default-laid : goal.returns-in_default-laid
 unfolding cover_call_by
 returns-in_default-laid c =
-    let ties = ties-of (goal.at.returns-in_default-laid c).After-slice_known-2-1 in
+    let ties = c.args.ties in
     let read = read_as c.read-r.ensures c.in-Counts.is in
     let number = plannable read c.index-n.ensures.0 c.square-costs.ensures in
     let same = instance_by_lem number ties read.job (instance_held read c.index-n.ensures.0 c.square-costs.ensures) in
@@ -43,7 +38,7 @@ returns-in_default-laid c =
 
 pub measure-requires : goal.measure-requires
 measure-requires c =
-    let ties = ties-of (goal.at.measure-requires c).Start in
+    let ties = c.args.ties in
     let read = read_as c.read-r.ensures c.in-Counts.is in
     let number = plannable read c.index-n.ensures.0 c.square-costs.ensures in
     let given = plannable_by number ties in record { plannable = number; by_index = (_, held_in number ties (laid_holds given _ _ _ c.in-Last.is c.lay_out-laid.ensures)) }
@@ -51,7 +46,7 @@ measure-requires c =
 pub returns : goal.returns
 unfolding cover_call_by
 returns c =
-    let ties = ties-of (goal.at.returns c).Start in
+    let ties = c.args.ties in
     let read = read_as c.read-r.ensures c.in-Counts.is in
     let number = plannable read c.index-n.ensures.0 c.square-costs.ensures in
     let same = instance_by_lem number ties read.job (instance_held read c.index-n.ensures.0 c.square-costs.ensures) in

@@ -15,15 +15,12 @@ use Rattle.schedule.proofs.lay_out.Goals.{After-order-order}
 
 -- the array has the tasks by the rule
 module _ (o : After-order-order) where
-  abbrev begun : tie.Start
-  begun = start_of o.before.before.before.before.before.before
-
   abbrev A : InArrays
-  A = in_number_order begun.args.n begun.args.tasks begun.args.edges begun.args.durations.now begun.args.from.now
-      begun.args.to.now begun.args.counts.now begun.args.costs
+  A = in_number_order o.args.n o.args.tasks o.args.edges o.args.durations.now o.args.from.now
+      o.args.to.now o.args.counts.now o.args.costs
 
-  by_place : values (λ i. get_or o.order-order.result i 0) 0 A.tasks ≡ order_by begun.args.ties (instance_in A)
-  by_place = o.order-order.ensures.tasks_value _ (tasks_in begun.requires) (held_tasks begun.requires)
+  by_place : values (λ i. get_or o.order-order.result i 0) 0 A.tasks ≡ order_by o.args.ties (instance_in A)
+  by_place = o.order-order.ensures.tasks_value _ (tasks_in o.requires) (held_tasks o.requires)
 
 pub returns-then-too_short : goal.returns-then-too_short
 returns-then-too_short c =

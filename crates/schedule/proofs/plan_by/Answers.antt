@@ -18,15 +18,10 @@ use Rattle.schedule.proofs.plan_by.Goals as goal
 abbrev answer : Ties → Job → Planned
 answer ties j = Plan (outcome_by (instance_by ties) j)
 
--- ---- the places
-
-abbrev ties-of : tie.After-read → Ties
-ties-of r = r.before.before.before.before.before.args.ties
-
 pub returns-in_default : goal.returns-in_default
 unfolding plan_call_by
 returns-in_default c =
-    let ties = ties-of (goal.at.returns-in_default c).After-read-r in
+    let ties = c.args.ties in
     passes_on _ c.read-r.ensures c.in_default.is c.number.ensures
     arrival_places Refused (plan_by (instance_by ties) (answer ties)) _ _ _
 
@@ -38,7 +33,7 @@ lay_out-laid-requires c =
 pub returns-in_default-laid : goal.returns-in_default-laid
 unfolding plan_call_by
 returns-in_default-laid c =
-    let ties = ties-of (goal.at.returns-in_default-laid c).After-slice_known-2-1 in
+    let ties = c.args.ties in
     let read = read_as c.read-r.ensures c.in-Counts.is in
     let number = plannable read c.index-n.ensures.0 c.square-costs.ensures in
     let same = instance_by_lem number ties read.job (instance_held read c.index-n.ensures.0 c.square-costs.ensures) in
@@ -46,7 +41,7 @@ returns-in_default-laid c =
 
 pub end-end-requires : goal.end-end-requires
 end-end-requires c =
-    let ties = ties-of (goal.at.end-end-requires c).Start in
+    let ties = c.args.ties in
     let read = read_as c.read-r.ensures c.in-Counts.is in
     let given = plannable_by (plannable read c.index-n.ensures.0 c.square-costs.ensures) ties in
     let last_is = laid_last given _ _ _ c.in-Last.is c.lay_out-laid.ensures in
@@ -56,7 +51,7 @@ end-end-requires c =
 pub returns : goal.returns
 unfolding plan_call_by
 returns c =
-    let ties = ties-of (goal.at.returns c).Start in
+    let ties = c.args.ties in
     let read = read_as c.read-r.ensures c.in-Counts.is in
     let number = plannable read c.index-n.ensures.0 c.square-costs.ensures in
     let same = instance_by_lem number ties read.job (instance_held read c.index-n.ensures.0 c.square-costs.ensures) in

@@ -36,4 +36,4 @@ unfolding greatest_in
 returns c =
     let args = c.args in
     let e : c.loop-p.p ≡ args.n = omega arith in
-    c.loop-p.invariant.2 ∙ ap (λ (k : ℕ). most k (λ i. most args.n (λ q. entry args.t1 i q))) e
+    c.loop-p.invariant.2 ∙ ap (λ (k : ℕ). most k (λ i. most args.n (λ q. entry args.costs i q))) e

@@ -25,10 +25,9 @@ along_edges-requires c =
 
 pub of_last-requires : goal.of_last-requires
 of_last-requires c =
-    let given = (c.requires.by_index, (c.requires.short_ticks, c.requires.most_value)) in
-    let S = scheduled given.0.1.plannable given.0.1.plan in record { tasks_in_bounds = (S.has_durations, S.has_starts, omega (arith, c.along_edges.ensures.has_sums, S.few)); by_index = λ T b. (S.takes_time T b, S.in_time T b) }
+    let given = c.requires.by_index.1 in
+    let S = scheduled given.plannable given.plan in record { tasks_in_bounds = (S.has_durations, S.has_starts, omega (arith, c.along_edges.ensures.has_sums, S.few)); by_index = λ T b. (S.takes_time T b, S.in_time T b) }
 
 pub returns : goal.returns
 returns c order H =
-    let given = (c.requires.by_index, (c.requires.short_ticks, c.requires.most_value)) in
-    least_is H.plannable H.plan given.1.0 c.along_edges.ensures c.of_last.ensures
+    least_is H.plannable H.plan c.requires.short_ticks c.along_edges.ensures c.of_last.ensures

@@ -27,7 +27,7 @@ pub choose-pair-requires : goal.choose-pair-requires
 choose-pair-requires c =
     let surveyed = c.survey-moment.ensures in
     let few : c.args.n ≤ 16 = search rules in record { clock_bound = search rules; waiting_len = search rules; count_in_bounds = (
-            omega (arith, surveyed.few, few, c.requires.order_in.1, c.survey-moment.auto.1.1.1.0),
+            omega (arith, surveyed.few, few, c.requires.order_in.1, c.survey-moment.auto.free),
             λ i h. omega (arith, few, free_below _ _ _ _ _ surveyed i h),
           ); order_in = c.requires.order_in.0 }
 

@@ -65,36 +65,29 @@ pub skip-requires : goal.skip-requires
 skip-requires c =
     (
       c.requires.to_place.low_most,
-      to_skip c.requires.to_place c.put.ensures.1.1.1
-          c.send.auto.1.1.1.1.1.1.1.1.0,
+      to_skip c.requires.to_place c.put.ensures.waiting_after c.send.auto.waiting,
       c.requires.order_in,
     )
 
 pub shape_of-starts : goal.shape_of-starts
-shape_of-starts c =
-    c.put.auto.1.1.1.1.0
+shape_of-starts c = c.put.auto.starts
 
 pub shape_of-processors : goal.shape_of-processors
-shape_of-processors c =
-    c.put.auto.1.1.1.1.1.0
+shape_of-processors c = c.put.auto.processors
 
 pub shape_of-arrivals : goal.shape_of-arrivals
-shape_of-arrivals c =
-    c.send.auto.1.1.1.1.1.1.1.0
+shape_of-arrivals c = c.send.auto.arrivals
 
 pub shape_of-waiting : goal.shape_of-waiting
-shape_of-waiting c =
-    c.send.auto.1.1.1.1.1.1.1.1.0 ∙ c.put.auto.1.1.1.1.1.1.1.0
+shape_of-waiting c = c.send.auto.waiting ∙ c.put.auto.waiting
 
 pub shape_of-latest : goal.shape_of-latest
-shape_of-latest c =
-    c.send.auto.1.1.1.1.1.1.1.1.1.0
+shape_of-latest c = c.send.auto.latest
 
 pub shape_of-busy : goal.shape_of-busy
-shape_of-busy c =
-    c.put.auto.1.1.1.1.1.1.0
+shape_of-busy c = c.put.auto.busy
 
 pub returns : goal.returns
 returns c =
-    together c.requires.to_place c.put.ensures.1.1.1 c.put.ensures.0 c.put.ensures.1.0 c.put.ensures.1.1.0 c.send.ensures
+    together c.requires.to_place c.put.ensures.waiting_after c.put.ensures.starts_after c.put.ensures.processors_after c.put.ensures.busy_after c.send.ensures
     c.skip.ensures

@@ -20,7 +20,7 @@ use Rattle.schedule.specs.Laws.Planner.Invariant.{Invariant, holds_first, holds_
 use Rattle.schedule.specs.Laws.Planner.Invariant.{task_small, finish_small, to_place, holds_placed, holds_moved}
 use Rattle.schedule.specs.Laws.Rows.Lifted.{later, not_later}
 use Rattle.schedule.proofs.planner.run.Goals as goal
-use Rattle.schedule.proofs.planner.run.Goals.{At-loop-low, In-loop-low, Then-pair-next, else-pair-next, then-pair-next+else-end-done, then-pair-next+then-end-done}
+use Rattle.schedule.proofs.planner.run.Goals.{At-loop-low, In-loop-low, else-pair-next, then-pair-next+else-end-done, then-pair-next+then-end-done}
 
 -- ---- in plain numbers
 
@@ -81,24 +81,6 @@ module _ (q : In-loop-low) where
   remain : q.loop-low.low < q.args.tasks
   remain = omega (arith, q.loop-low-test.true, q.loop-low.invariant.1.in_step.low_most)
 
--- ---- and where the look found a pair that is placed
-
-module _ (w : Then-pair-next) where
-
-
-
-  abbrev pair : Pair
-  pair = w.look-choice.result.pair
-
-  in_time : pair.start ≤ w.look-choice.result.next
-  in_time = omega (arith, w.if-pair-next.true)
-
-  small : pair.task < 256
-  small = task_small (given w) (room w) w.loop-low.invariant.1 (remain w) w.look-choice.ensures in_time
-
-  finish_low : pair.start + get_or w.args.durations.now pair.task 0 ≤ most_finish
-  finish_low = finish_small (given w) (room w) w.loop-low.invariant.1 (remain w) w.look-choice.ensures in_time
-
 pub loop-low-init : goal.loop-low-init
 loop-low-init c =
     let F = c.requires.plannable in
@@ -131,7 +113,15 @@ slice_bounds-finish-end c =
 
 pub finish-done-requires : goal.finish-done-requires
 finish-done-requires c =
-    let there = below_length ℕ c.args.durations.now _ 256 (given (goal.at.finish-done-requires c).At-loop-low).durations_size (small (goal.at.finish-done-requires c).Then-pair-next) in record { task_in_bounds = (there, small (goal.at.finish-done-requires c).Then-pair-next, (edge_runs (goal.at.finish-done-requires c).At-loop-low).size); task_bound = finish_low (goal.at.finish-done-requires c).Then-pair-next }
+    let a = (goal.at.finish-done-requires c).At-loop-low in
+    let q = (goal.at.finish-done-requires c).In-loop-low in
+    let in_time : c.look-choice.result.pair.start ≤ c.look-choice.result.next = omega (arith, c.if-pair-next.true) in
+    let small = task_small (given a) (room a) c.loop-low.invariant.1 (remain q) c.look-choice.ensures in_time in
+    let there = below_length ℕ c.args.durations.now _ 256 (given a).durations_size small in
+    record {
+      task_in_bounds = (there, small, (edge_runs a).size);
+      task_bound = finish_small (given a) (room a) c.loop-low.invariant.1 (remain q) c.look-choice.ensures in_time;
+    }
 
 pub slice_bounds-place-end : goal.slice_bounds-place-end
 slice_bounds-place-end c =
@@ -148,7 +138,7 @@ slice_bounds-place-end-then-pair-next-2 c =
 pub place-low-requires : goal.place-low-requires
 place-low-requires c =
     record { to_place = asked_of c.finish-done.ensures.first_value c.finish-done.ensures.last_value
-          (to_place (given (goal.at.place-low-requires c).At-loop-low) (room (goal.at.place-low-requires c).At-loop-low) c.loop-low.invariant.1 (remain (goal.at.place-low-requires c).In-loop-low) c.look-choice.ensures (in_time (goal.at.place-low-requires c).Then-pair-next) (edge_runs (goal.at.place-low-requires c).At-loop-low) c.finish-done.ensures.finish_value); order_in = ordered (goal.at.place-low-requires c).At-loop-low }
+          (to_place (given (goal.at.place-low-requires c).At-loop-low) (room (goal.at.place-low-requires c).At-loop-low) c.loop-low.invariant.1 (remain (goal.at.place-low-requires c).In-loop-low) c.look-choice.ensures (omega (arith, c.if-pair-next.true)) (edge_runs (goal.at.place-low-requires c).At-loop-low) c.finish-done.ensures.finish_value); order_in = ordered (goal.at.place-low-requires c).At-loop-low }
 
 pub overflow_add-rounds : goal.overflow_add-rounds
 overflow_add-rounds c =
@@ -163,14 +153,12 @@ loop-low-preserved c =
     let found = c.look-choice.ensures in
     let runs = edge_runs (goal.at.loop-low-preserved c).At-loop-low in (
       c.look-choice.auto.free ∙ c.loop-low.invariant.0,
-      (elim c.if-pair-next.branch [ then-pair-next+then-end-done w ↦ let kept = w.place-low.kept.1.1.1.1.1.1.1.1.1.1.1.1.1 in
-          carried
+      (elim c.if-pair-next.branch [ then-pair-next+then-end-done w ↦ carried
           (holds_placed (given (goal.at.loop-low-preserved c).At-loop-low) (room (goal.at.loop-low-preserved c).At-loop-low) c.loop-low.invariant.1 (remain (goal.at.loop-low-preserved c).In-loop-low) found (omega (arith, w.if-pair-next.true)) runs w.finish-done.ensures.finish_value
-          (placed_of w.finish-done.ensures.first_value w.finish-done.ensures.last_value w.place-low.ensures) (later _ _ w.if-end-done.true) kept.0 kept.1.0 kept.1.1.0)
-          w.starts-is w.processors-is w.arrivals-is w.waiting-is w.latest-is w.busy-is w.clock-is w.end-is w.low-is | then-pair-next+else-end-done w ↦ let kept = w.place-low.kept.1.1.1.1.1.1.1.1.1.1.1.1.1 in
-          carried
+          (placed_of w.finish-done.ensures.first_value w.finish-done.ensures.last_value w.place-low.ensures) (later _ _ w.if-end-done.true) w.place-low.auto.arrivals w.place-low.auto.waiting w.place-low.auto.latest)
+          w.starts-is w.processors-is w.arrivals-is w.waiting-is w.latest-is w.busy-is w.clock-is w.end-is w.low-is | then-pair-next+else-end-done w ↦ carried
           (holds_placed (given (goal.at.loop-low-preserved c).At-loop-low) (room (goal.at.loop-low-preserved c).At-loop-low) c.loop-low.invariant.1 (remain (goal.at.loop-low-preserved c).In-loop-low) found (omega (arith, w.if-pair-next.true)) runs w.finish-done.ensures.finish_value
-          (placed_of w.finish-done.ensures.first_value w.finish-done.ensures.last_value w.place-low.ensures) (not_later _ _ w.if-end-done.false) kept.0 kept.1.0 kept.1.1.0)
+          (placed_of w.finish-done.ensures.first_value w.finish-done.ensures.last_value w.place-low.ensures) (not_later _ _ w.if-end-done.false) w.place-low.auto.arrivals w.place-low.auto.waiting w.place-low.auto.latest)
           w.starts-is w.processors-is w.arrivals-is w.waiting-is w.latest-is w.busy-is w.clock-is w.end-is w.low-is | else-pair-next w ↦ carried (holds_moved (given (goal.at.loop-low-preserved c).At-loop-low) (room (goal.at.loop-low-preserved c).At-loop-low) c.loop-low.invariant.1 (remain (goal.at.loop-low-preserved c).In-loop-low) found (omega (arith, w.if-pair-next.false)))
           w.starts-is w.processors-is w.arrivals-is w.waiting-is w.latest-is w.busy-is w.clock-is w.end-is w.low-is ]),
     )

@@ -55,7 +55,10 @@ loop-k-preserved c =
       latest_size = (elim c.if-latest-t.branch [ then-latest-t w ↦ lifted _ _ _ _ w.if-latest-t.true w.latest-is (omega (arith, t.1, v.latest_size, (asked (goal.at.loop-k-preserved c).At-loop-k).latest_size)) | else-latest-t w ↦ unlifted _ _ _ _ w.if-latest-t.false w.latest-is ]).size ∙ v.latest_size;
       sent = turn _ _ _ _ _ _ _ _ t.0 v.from_first _ _ _ _ _
           c.wide16.ensures v.sent c.raise.ensures (elim c.if-latest-t.branch [ then-latest-t w ↦ lifted _ _ _ _ w.if-latest-t.true w.latest-is (omega (arith, t.1, v.latest_size, (asked (goal.at.loop-k-preserved c).At-loop-k).latest_size)) | else-latest-t w ↦ unlifted _ _ _ _ w.if-latest-t.false w.latest-is ])
-          (asked (goal.at.loop-k-preserved c).At-loop-k).few_processors (omega (arith, t.1, v.waiting_size, (asked (goal.at.loop-k-preserved c).At-loop-k).waiting_size)) (sub-waiting (goal.at.loop-k-preserved c).After-slice_known-in-loop-k-3-1);
+          (asked (goal.at.loop-k-preserved c).At-loop-k).few_processors (omega (arith, t.1, v.waiting_size, (asked (goal.at.loop-k-preserved c).At-loop-k).waiting_size)) (
+            still_waits _ _ _ _ t.0 v.from_first _ c.args.waiting.now c.loop-k.waiting
+            v.sent.waiting_at (asked (goal.at.loop-k-preserved c).At-loop-k).enough (search rules)
+          );
     }
 
 pub returns : goal.returns

@@ -57,13 +57,13 @@ tell-requires c =
 pub skip-requires : goal.skip-requires
 skip-requires c =
     let asked = c.requires in
-    (asked.low_most, to_skip asked c.put.ensures.1.1.1 c.tell.auto.1.1.1.1.0)
+    (asked.low_most, to_skip asked c.put.ensures.waiting_after c.tell.auto.waiting)
 
 pub shape_of-scratch : goal.shape_of-scratch
 shape_of-scratch c =
-    c.tell.auto.1.1.1.1.1.0
+    c.tell.auto.scratch
     ∙ length-set c.args.scratch.now (256 + c.args.pair.task) c.args.finish
 
 pub returns : goal.returns
 returns c =
-    together c.requires c.put.ensures.1.1.1 c.put.ensures.0 c.put.ensures.1.0 c.put.ensures.1.1.0 c.tell.ensures c.skip.ensures
+    together c.requires c.put.ensures.waiting_after c.put.ensures.starts_after c.put.ensures.processors_after c.put.ensures.busy_after c.tell.ensures c.skip.ensures

@@ -21,7 +21,7 @@ use Rattle.schedule.specs.Laws.Planner.WithoutTable.{Following, follows_first, f
 use Rattle.schedule.specs.Laws.Planner.WithoutTable.{clock_low, rounds_low, to_look, task_low, finish_low, to_enter}
 use Rattle.schedule.specs.Laws.Rows.Lifted.{later, not_later}
 use Rattle.schedule.proofs.small.run.Goals as goal
-use Rattle.schedule.proofs.small.run.Goals.{At-loop-low, In-loop-low, Then-pair-moment, else-pair-moment, then-pair-moment+else-end-done, then-pair-moment+then-end-done}
+use Rattle.schedule.proofs.small.run.Goals.{At-loop-low, In-loop-low, else-pair-moment, then-pair-moment+else-end-done, then-pair-moment+then-end-done}
 
 -- ---- in plain numbers
 
@@ -73,32 +73,14 @@ module _ (a : At-loop-low) where
       runs_of _ _ _ (climb given) given.few_tasks (edges_there given).0 (omega (arith, given.few_edges)) a.runs-runs.ensures
 
   -- those into each task are one list
-  edge_lists : Listed a.args.to.now a.args.edges a.lists.last.1.1.0 (replicate 1024 0)
-      a.lists.last.1.1.1.0
+  edge_lists : Listed a.args.to.now a.args.edges a.lists.new.first (replicate 1024 0)
+      a.lists.new.next
   edge_lists = listed_of _ _ (edges_there given).1 given.few_edges a.lists.ensures
 
 -- in the loop tasks remain
 module _ (q : In-loop-low) where
   remain : q.loop-low.low < q.args.tasks
   remain = omega (arith, q.loop-low-test.true, q.loop-low.invariant.inner.in_step.low_most)
-
--- ---- and where the look found a pair that is placed
-
-module _ (w : Then-pair-moment) where
-
-
-
-  abbrev pair : Pair
-  pair = w.look-choice.result.pair
-
-  in_time : pair.start ≤ w.look-choice.result.next
-  in_time = omega (arith, w.if-pair-moment.true)
-
-  small : pair.task < 256
-  small = task_low (given w) (room w) w.loop-low.invariant w.look-choice.ensures (remain w) in_time
-
-  finish_by : pair.start + get_or w.args.durations.now pair.task 0 ≤ most_finish
-  finish_by = finish_low (given w) (room w) w.loop-low.invariant w.look-choice.ensures (remain w) in_time
 
 pub loop-low-init : goal.loop-low-init
 loop-low-init c =
@@ -132,7 +114,15 @@ slice_bounds-finish-end c =
 
 pub finish-done-requires : goal.finish-done-requires
 finish-done-requires c =
-    let there = below_length ℕ c.args.durations.now _ 256 (given (goal.at.finish-done-requires c).At-loop-low).durations_size (small (goal.at.finish-done-requires c).Then-pair-moment) in record { task_in_bounds = (there, small (goal.at.finish-done-requires c).Then-pair-moment, (edge_runs (goal.at.finish-done-requires c).At-loop-low).size); task_bound = finish_by (goal.at.finish-done-requires c).Then-pair-moment }
+    let a = (goal.at.finish-done-requires c).At-loop-low in
+    let q = (goal.at.finish-done-requires c).In-loop-low in
+    let in_time : c.look-choice.result.pair.start ≤ c.look-choice.result.next = omega (arith, c.if-pair-moment.true) in
+    let small = task_low (given a) (room a) c.loop-low.invariant c.look-choice.ensures (remain q) in_time in
+    let there = below_length ℕ c.args.durations.now _ 256 (given a).durations_size small in
+    record {
+      task_in_bounds = (there, small, (edge_runs a).size);
+      task_bound = finish_low (given a) (room a) c.loop-low.invariant c.look-choice.ensures (remain q) in_time;
+    }
 
 pub slice_bounds-place-end : goal.slice_bounds-place-end
 slice_bounds-place-end c =
@@ -145,7 +135,7 @@ slice_bounds-place-end-then-pair-moment c =
 pub place-low-requires : goal.place-low-requires
 place-low-requires c =
     asked_of c.finish-done.ensures.first_value c.finish-done.ensures.last_value
-    (to_enter (given (goal.at.place-low-requires c).At-loop-low) (room (goal.at.place-low-requires c).At-loop-low) c.loop-low.invariant c.look-choice.ensures (remain (goal.at.place-low-requires c).In-loop-low) (in_time (goal.at.place-low-requires c).Then-pair-moment) (edge_runs (goal.at.place-low-requires c).At-loop-low) c.finish-done.ensures.finish_value)
+    (to_enter (given (goal.at.place-low-requires c).At-loop-low) (room (goal.at.place-low-requires c).At-loop-low) c.loop-low.invariant c.look-choice.ensures (remain (goal.at.place-low-requires c).In-loop-low) (omega (arith, c.if-pair-moment.true)) (edge_runs (goal.at.place-low-requires c).At-loop-low) c.finish-done.ensures.finish_value)
 
 pub overflow_add-rounds : goal.overflow_add-rounds
 overflow_add-rounds c =
@@ -159,14 +149,12 @@ pub loop-low-preserved : goal.loop-low-preserved
 loop-low-preserved c =
     let found = c.look-choice.ensures in
     let runs = edge_runs (goal.at.loop-low-preserved c).At-loop-low in
-    (elim c.if-pair-moment.branch [ then-pair-moment+then-end-done w ↦ let kept = w.place-low.kept.1.1.1.1.1.1.1.1.1.1 in
-    carried
+    (elim c.if-pair-moment.branch [ then-pair-moment+then-end-done w ↦ carried
     (follows_placed (given (goal.at.loop-low-preserved c).At-loop-low) (room (goal.at.loop-low-preserved c).At-loop-low) c.loop-low.invariant found (remain (goal.at.loop-low-preserved c).In-loop-low) (omega (arith, w.if-pair-moment.true)) runs w.finish-done.ensures.finish_value
-    (entered_of w.finish-done.ensures.first_value w.finish-done.ensures.last_value w.place-low.ensures) (later _ _ w.if-end-done.true) kept.0 kept.1.0)
-    w.starts-is w.processors-is w.scratch-is w.waiting-is w.busy-is w.clock-is w.end-is w.low-is | then-pair-moment+else-end-done w ↦ let kept = w.place-low.kept.1.1.1.1.1.1.1.1.1.1 in
-    carried
+    (entered_of w.finish-done.ensures.first_value w.finish-done.ensures.last_value w.place-low.ensures) (later _ _ w.if-end-done.true) w.place-low.auto.waiting w.place-low.auto.scratch)
+    w.starts-is w.processors-is w.scratch-is w.waiting-is w.busy-is w.clock-is w.end-is w.low-is | then-pair-moment+else-end-done w ↦ carried
     (follows_placed (given (goal.at.loop-low-preserved c).At-loop-low) (room (goal.at.loop-low-preserved c).At-loop-low) c.loop-low.invariant found (remain (goal.at.loop-low-preserved c).In-loop-low) (omega (arith, w.if-pair-moment.true)) runs w.finish-done.ensures.finish_value
-    (entered_of w.finish-done.ensures.first_value w.finish-done.ensures.last_value w.place-low.ensures) (not_later _ _ w.if-end-done.false) kept.0 kept.1.0)
+    (entered_of w.finish-done.ensures.first_value w.finish-done.ensures.last_value w.place-low.ensures) (not_later _ _ w.if-end-done.false) w.place-low.auto.waiting w.place-low.auto.scratch)
     w.starts-is w.processors-is w.scratch-is w.waiting-is w.busy-is w.clock-is w.end-is w.low-is | else-pair-moment w ↦ carried (follows_moved (given (goal.at.loop-low-preserved c).At-loop-low) (room (goal.at.loop-low-preserved c).At-loop-low) c.loop-low.invariant found (remain (goal.at.loop-low-preserved c).In-loop-low) (omega (arith, w.if-pair-moment.false)))
     w.starts-is w.processors-is w.scratch-is w.waiting-is w.busy-is w.clock-is w.end-is w.low-is ])
 

@@ -65,7 +65,10 @@ loop-k-preserved c =
       waiting_size = search rules;
       scratch_size = (elim c.if-scratch-t.branch [ then-scratch-t w ↦ lifted _ _ _ _ w.if-scratch-t.true w.scratch-is (omega (arith, t.1, v.scratch_size, (asked (goal.at.loop-k-preserved c).At-loop-k).scratch_room)) | else-scratch-t w ↦ unlifted _ _ _ _ w.if-scratch-t.false w.scratch-is ]).size ∙ v.scratch_size;
       told = turn _ _ _ _ _ _ _ _ _ _ t.0 v.from_first v.told (elim c.if-scratch-t.branch [ then-scratch-t w ↦ lifted _ _ _ _ w.if-scratch-t.true w.scratch-is (omega (arith, t.1, v.scratch_size, (asked (goal.at.loop-k-preserved c).At-loop-k).scratch_room)) | else-scratch-t w ↦ unlifted _ _ _ _ w.if-scratch-t.false w.scratch-is ]) t.1
-          (omega (arith, t.1, v.waiting_size, (asked (goal.at.loop-k-preserved c).At-loop-k).waiting_size)) (sub-waiting (goal.at.loop-k-preserved c).After-slice_known-in-loop-k-2-1);
+          (omega (arith, t.1, v.waiting_size, (asked (goal.at.loop-k-preserved c).At-loop-k).waiting_size)) (
+            still_waits _ _ _ _ t.0 v.from_first _ c.args.waiting.now c.loop-k.waiting
+            v.told.waiting_at (asked (goal.at.loop-k-preserved c).At-loop-k).enough (search rules)
+          );
     }
 
 pub returns : goal.returns

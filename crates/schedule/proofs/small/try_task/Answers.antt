@@ -28,14 +28,6 @@ module _ (clock : ℕ) (f : ℕ → ℕ) (free : List ℕ) (count T : ℕ) where
 few : (n count : ℕ) (free : List ℕ) → n ≤ 16 → ((i : ℕ) → i < count → get_or free i 0 < n) → (i : ℕ) → i < count → get_or free i 0 < 16
 few n count free h low i k = omega (arith, low i k)
 
--- the arrivals that are asked for
-abbrev arrival : tie.Start → ℕ → ℕ
-arrival start =
-    worked_out
-    (sources start.args.edges start.args.from.now start.args.to.now start.args.counts.now
-    start.args.costs.now start.args.processors.now start.args.scratch.now)
-    start.args.task
-
 pub is_beaten-requires : goal.is_beaten-requires
 is_beaten-requires c =
     record { walkable = c.requires.n_bound.2; count_in_bounds = (c.requires.count_in_bounds.0, few _ _ c.args.free.now c.requires.n_bound.0 c.requires.count_in_bounds.1) }
@@ -46,9 +38,15 @@ returns-then-is_beaten c =
 
 pub try_row-requires : goal.try_row-requires
 try_row-requires c =
-    let pre = (c.requires.n_bound, c.requires.count_in_bounds) in record { in_bounds = (search rules, pre.1.0); by_index = (few _ _ c.args.free.now pre.0.0 pre.1.1, pre.0.1) }
+    record {
+      in_bounds = (search rules, c.requires.count_in_bounds.0);
+      by_index = (few _ _ c.args.free.now c.requires.n_bound.0 c.requires.count_in_bounds.1, c.requires.n_bound.1);
+    }
 
 pub returns : goal.returns
 returns c =
-    worked _ (arrival (goal.at.returns c).Start) _ _ _ _ c.work_out-row.result c.args.leader c.try_row.result
+    worked _
+    (worked_out
+    (sources c.args.edges c.args.from.now c.args.to.now c.args.counts.now c.args.costs.now c.args.processors.now c.args.scratch.now)
+    c.args.task) _ _ _ _ c.work_out-row.result c.args.leader c.try_row.result
     c.requires.count_in_bounds.1 c.work_out-row.ensures.1 c.try_row.ensures

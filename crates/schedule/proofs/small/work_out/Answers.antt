@@ -13,7 +13,7 @@ use Rattle.schedule.specs.Laws.Planner.WorkedOut.{into_first, known_into, next_i
 use Rattle.schedule.specs.Laws.Planner.WorkedOut.{most_first, most_past, sent_at_lem, sent_row, sent_in_time}
 use Rattle.schedule.proofs.small.work_out.Invariants.{Going}
 use Rattle.schedule.proofs.small.work_out.Goals as goal
-use Rattle.schedule.proofs.small.work_out.Goals.{At-loop-edge, In-loop-edge}
+use Rattle.schedule.proofs.small.work_out.Goals.{At-loop-edge}
 
 module _ (S : Sources) (next : List ℕ) (T n first : ℕ) (W : Walkable S next T first) where
   begun : Going S T n (replicate 16 0) first
@@ -54,32 +54,27 @@ module _ (a : At-loop-edge) where
   abbrev walkable : Walkable held a.args.next.now a.args.task a.args.first
   walkable = a.requires.1
 
--- in the loop an edge is left
-module _ (q : In-loop-edge) where
-  left : q.loop-edge.edge < q.args.edges
-  left = omega (arith, q.loop-edge-test.true, (walkable q.before).begins.within)
-
 pub loop-edge-init : goal.loop-edge-init
 loop-edge-init c =
     begun _ _ _ _ _ c.requires.1
 
 pub sent-bundle-requires : goal.sent-bundle-requires
 sent-bundle-requires c =
-    known_into _ _ _ _ (walkable (goal.at.sent-bundle-requires c).At-loop-edge) _ c.loop-edge.invariant.into (left (goal.at.sent-bundle-requires c).In-loop-edge)
+    known_into _ _ _ _ (walkable (goal.at.sent-bundle-requires c).At-loop-edge) _ c.loop-edge.invariant.into c.loop-edge-test.true
 
 pub raise-requires : goal.raise-requires
 raise-requires c =
-    let K = known_into _ _ _ _ (walkable (goal.at.raise-requires c).At-loop-edge) _ c.loop-edge.invariant.into (left (goal.at.raise-requires c).In-loop-edge) in record { task_bound = (search rules, search rules, search rules, sent_row (held (goal.at.raise-requires c).At-loop-edge) _ _ _ _ c.sent-bundle.ensures.0 c.sent-bundle.ensures.1.0 c.sent-bundle.ensures.1.1 K); finish_le_most_finish = sent_in_time (held (goal.at.raise-requires c).At-loop-edge) _ _ _ _ c.sent-bundle.ensures.0 c.sent-bundle.ensures.1.0 c.sent-bundle.ensures.1.1 K }
+    let K = known_into _ _ _ _ (walkable (goal.at.raise-requires c).At-loop-edge) _ c.loop-edge.invariant.into c.loop-edge-test.true in record { task_bound = (search rules, search rules, search rules, sent_row (held (goal.at.raise-requires c).At-loop-edge) _ _ _ _ c.sent-bundle.ensures.finish_value c.sent-bundle.ensures.messages_value c.sent-bundle.ensures.row_value K); finish_le_most_finish = sent_in_time (held (goal.at.raise-requires c).At-loop-edge) _ _ _ _ c.sent-bundle.ensures.finish_value c.sent-bundle.ensures.messages_value c.sent-bundle.ensures.row_value K }
 
 pub loop-edge-smaller : goal.loop-edge-smaller
 loop-edge-smaller c =
-    let less = next_less _ _ _ _ (walkable (goal.at.loop-edge-smaller c).At-loop-edge) _ c.loop-edge.invariant.into (left (goal.at.loop-edge-smaller c).In-loop-edge) in
+    let less = next_less _ _ _ _ (walkable (goal.at.loop-edge-smaller c).At-loop-edge) _ c.loop-edge.invariant.into c.loop-edge-test.true in
     rw c.index16-edge.ensures less
 
 pub loop-edge-preserved : goal.loop-edge-preserved
 loop-edge-preserved c =
-    turn _ _ _ _ _ (walkable (goal.at.loop-edge-preserved c).At-loop-edge) _ _ _ _ _ _ _ c.loop-edge.invariant (left (goal.at.loop-edge-preserved c).In-loop-edge)
-    (sent_at_lem (held (goal.at.loop-edge-preserved c).At-loop-edge) _ _ _ _ c.sent-bundle.ensures.0 c.sent-bundle.ensures.1.0 c.sent-bundle.ensures.1.1) c.raise.ensures c.raise.auto.arrivals c.index16-edge.ensures
+    turn _ _ _ _ _ (walkable (goal.at.loop-edge-preserved c).At-loop-edge) _ _ _ _ _ _ _ c.loop-edge.invariant c.loop-edge-test.true
+    (sent_at_lem (held (goal.at.loop-edge-preserved c).At-loop-edge) _ _ _ _ c.sent-bundle.ensures.finish_value c.sent-bundle.ensures.messages_value c.sent-bundle.ensures.row_value) c.raise.ensures c.raise.auto.arrivals c.index16-edge.ensures
 
 pub returns : goal.returns
 returns c =
