@@ -129,26 +129,31 @@ pub record SmallestOf {A : Type 0} (P : A → Type 0) (f : A → ℕ) (low r : �
 abbrev pub Served : ℕ → ℕ → (ℕ → ℕ) → ℕ → Type 0
 Served idle latest reach P = Holds (has idle P) × (latest ≤ reach P)
 
--- r is no more than `most`, nor than what each of the first n places of a row has, but for place p
+-- the messages of edge k to a processor of the set cost no more than `most`, each
+pub record AtMost (durations from counts : List ℕ) (costs : List (List ℕ)) (starts processors : List ℕ) (most set k : ℕ) : Type 0 where
+  pub near : get_or counts k 0 * most ≤ most_message_time
+  pub to_most : (P : ℕ) → Holds (has set P) → message_at durations from counts costs starts processors P k ≤ get_or counts k 0 * most
+
+-- r is no more than `most`, nor than what each of the first n places of a row has, but for place p where that has nothing
 pub record NoMore (row : List ℕ) (n p most r : ℕ) : Type 0 where
   pub to_most : r ≤ most
-  pub to_each : (q : ℕ) → q < n → (q ≡ p → ⊥) → r ≤ get_or row q 0
+  pub to_each : (q : ℕ) → q < n → ((q ≡ p) × (get_or row q 0 ≡ 0) → ⊥) → r ≤ get_or row q 0
 
--- `least` has, of each of the first k processors, no more than what a message to another of n costs, nor than `most`
+-- `least` has, of each of the first k processors, no more than what a message to another of n costs, or to itself where that is not free,
+-- nor than `most`
 pub record Nearest (costs : List (List ℕ)) (n most k : ℕ) (least : List ℕ) : Type 0 where
   pub has_least : length least ≡ 16
   pub no_more : (p : ℕ) → p < k → NoMore (get_or costs p []) n p most (get_or least p 0)
 
--- what the messages of edge k cost, each: to a processor of the set no more than `most`; to their sender's own nothing, and to another of
--- the set no less than what `nearest` has of the sender's
+-- what the messages of edge k cost, each: to a processor of the set no more than `most`, and no less than what `nearest` has of their
+-- sender's own, but to that itself where it is free
 module _ (durations from counts : List ℕ) (costs : List (List ℕ)) (starts processors : List ℕ) (most : ℕ) (nearest : List ℕ) where
   pub record Between (set k : ℕ) : Type 0 where
-    pub near : get_or counts k 0 * most ≤ most_message_time
-    pub to_most : (P : ℕ) → Holds (has set P) → message_at durations from counts costs starts processors P k ≤ get_or counts k 0 * most
-    pub to_own : message_at durations from counts costs starts processors (get_or processors (get_or from k 0) 0) k ≡ 0
+    pub at_most : AtMost durations from counts costs starts processors most set k
     pub has_nearest : length nearest ≡ 16
     pub nearest_most : get_or nearest (get_or processors (get_or from k 0) 0) 0 ≤ most
-    pub to_other : (P : ℕ) → Holds (has set P) → (P ≡ get_or processors (get_or from k 0) 0 → ⊥)
+    pub to_other : (P : ℕ) → Holds (has set P)
+        → ((P ≡ get_or processors (get_or from k 0) 0) × (entry costs (get_or processors (get_or from k 0) 0) P ≡ 0) → ⊥)
         → get_or counts k 0 * get_or nearest (get_or processors (get_or from k 0) 0) 0 ≤ message_at durations from counts costs starts processors P k
 
 -- what the walks from each task take, before an edge was looked at: 0 where no tick before its start is short, else what none passes

@@ -84,8 +84,6 @@ pub record Plannable (A : InArrays) : Type 0 where
       → Before (edge_held A.from A.to A.counts k) (edge_held A.from A.to A.counts (suc k))
   -- messages of one edge take at most 800,000, whatever the count and the cost
   pub near : (k p q : ℕ) → k < A.edges → get_or A.counts k 0 * entry A.costs p q ≤ most_message_time
-  -- 01: "The cost from a board to itself is 0"
-  pub itself_free : (p : ℕ) → p < A.processors → entry A.costs p p ≡ 0
   pub ordered : Ordering A.tasks A.order
   pub durations_size : length A.durations ≡ 256
   pub from_size : length A.from ≡ 1024

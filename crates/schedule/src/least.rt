@@ -17,7 +17,7 @@ ghost use Rattle.schedule.specs.CoverPass.{LeastSums, LeastOfLast, greatest_in, 
 
 use crate::messages;
 
-// The least of the first n numbers of a row but the one at p; `most` where none is below it.
+// The least of the first n numbers of a row, but for the one at p where that is 0; `most` where none is below it.
 fn nearest_in(row: &[u32], n: usize, p: usize, most: u32) -> u32
     requires { n ≤ length row.now }
     ensures { NoMore row.now n p most result }
@@ -26,7 +26,7 @@ fn nearest_in(row: &[u32], n: usize, p: usize, most: u32) -> u32
     let mut q: usize = 0;
     while q < n {
         let cost = row[q];
-        if q != p {
+        if q != p || cost != 0 {
             if cost < least {
                 least = cost;
             }
@@ -36,7 +36,7 @@ fn nearest_in(row: &[u32], n: usize, p: usize, most: u32) -> u32
     least
 }
 
-// What a message costs at least from each of the first n processors to another of them.
+// What a message costs at least from each of the first n processors to another of them, or to itself where that is not free.
 fn nearest(costs: &[[u32; 16]; 16], n: usize, most: u32, least: &mut [u32])
     requires { (n ≤ 16) × (length least.old ≡ 16) × ((p : ℕ) → p < 16 → length (get_or costs.now p []) ≡ 16) }
     ensures { Nearest costs.now n most n least.new }
@@ -124,7 +124,9 @@ fn along_edge(
     }
     if latest <= finish {
         if (idle >> p) % 2 == 1 {
-            return before;
+            if costs[p][p] == 0 {
+                return before;
+            }
         }
     }
     let soonest = finish + count * nearest[p];

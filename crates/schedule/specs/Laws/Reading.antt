@@ -18,7 +18,7 @@ use Rattle.etf.specs.Instance.{Instance}
 use Rattle.etf.specs.Topology.{cost, square, entry}
 use Rattle.etf.specs.OfJob.{cost_in, costs_of, instance, result_of}
 use Rattle.etf.specs.Bounds.{most_cost, most_message_time}
-use Rattle.etf.specs.Laws.Costs.{square_same, square_cost, cost_same, cost_self, row_length}
+use Rattle.etf.specs.Laws.Costs.{square_same, cost_same, row_length}
 use Rattle.etf.specs.Laws.OfJob.{entry_most}
 use Rattle.costs.specs.Wires.{loaded}
 use Rattle.schedule.specs.InArrays.{InArrays, in_number_order, instance_in, Ordering, Plannable}
@@ -164,11 +164,6 @@ module _ {file : List ℕ} {x : Reading} {m l : ℕ} (K : Read file x m l) where
       near = λ k p q h.
           let cheap : entry costs p q ≤ most_cost = rw costs_of_lem (entry_most J held_sound p q) in
           mul-le-mul (each_edge (λ e. e.count ≤ most_count) held_sound.few_messages k h) cheap;
-      itself_free = λ p h.
-          rw costs_are
-          (square_cost x.platform.processors (cost x.platform (loaded x.arrays.wires)) p p held_sound.few_processors
-          (omega (arith, n-is)) (omega (arith, n-is))
-          ∙ cost_self x.platform (loaded x.arrays.wires) p);
       ordered = by_number m;
       durations_size = K.durations_size;
       from_size = K.from_size;

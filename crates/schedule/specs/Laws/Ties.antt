@@ -74,7 +74,6 @@ module _ {A : InArrays} (F : Plannable A) where
         within = F.within;
         rising = F.rising;
         near = F.near;
-        itself_free = F.itself_free;
         ordered = record {
           within = λ i h. omega (arith, only_tasks ties (instance_in A) (order i) (at i h), held_tasks F);
           each = found;

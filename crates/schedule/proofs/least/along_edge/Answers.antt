@@ -19,7 +19,9 @@ use Rattle.schedule.specs.CoverPass.{has, SmallestOf, Served, Between}
 use Rattle.schedule.specs.Laws.Sent.{sent_most, row_there, time_is, time_most, arrival_is}
 use Rattle.schedule.specs.Laws.Walk.Sets.{bit_in, bit_of}
 use Rattle.schedule.proofs.least.along_edge.Goals as goal
-use Rattle.schedule.proofs.least.along_edge.Goals.{After-sent_along-sent, Joined-soonest-latest}
+use Rattle.schedule.proofs.least.along_edge.Goals.{After-sent_along-sent, Joined-soonest-latest, then-soonest-latest, else-soonest-latest}
+use Rattle.schedule.proofs.least.along_edge.Goals.{then-latest-finish+then-idle-p-eq1+else-costs-p-eq0, then-latest-finish+else-idle-p-eq1}
+use Rattle.schedule.proofs.least.along_edge.Goals.{else-latest-finish}
 
 module _ {durations from counts : List ℕ} {costs : List (List ℕ)} {starts processors : List ℕ} {most : ℕ} {nearest : List ℕ} {idle k : ℕ}
     (S : (P : ℕ) → Sender durations from counts costs starts processors P k)
@@ -39,7 +41,7 @@ module _ {durations from counts : List ℕ} {costs : List (List ℕ)} {starts pr
   module _ {p w f : ℕ} (p-is : p ≡ get_or processors (get_or from k 0) 0) (w-is : w ≡ get_or counts k 0)
       (f-is : f ≡ get_or starts (get_or from k 0) 0 + get_or durations (get_or from k 0) 0) where
     most_fits : w * most ≤ most_message_time
-    most_fits = rw w-is B.near
+    most_fits = rw w-is B.at_most.near
 
     near_fits : w * get_or nearest p 0 ≤ most_message_time
     near_fits =
@@ -55,39 +57,46 @@ module _ {durations from counts : List ℕ} {costs : List (List ℕ)} {starts pr
     there : (P : ℕ) → f + w * entry costs p P ≡ reach P
     there P = arrival_is (S P) p-is w-is f-is
 
-    to_own : time p ≡ 0
-    to_own = rw p-is B.to_own
+    to_own : entry costs p p ≡ 0 → time p ≡ 0
+    to_own e = let t : w * entry costs p p ≡ time p = takes p in omega (arith, rw e at t)
 
     -- at the greatest cost they are there before the tick ends: none serves
     none_serves : (low before : ℕ) {latest : ℕ} → f + w * most < latest → Smallest latest before low low
     none_serves low before h = record {
       to_low = omega arith;
-      to_each = λ P v. let m : time P ≤ w * most = rw w-is (B.to_most P v.0) in absurd (omega (arith, v.1, there P, takes P, m));
+      to_each = λ P v. let m : time P ≤ w * most = rw w-is (B.at_most.to_most P v.0) in absurd (omega (arith, v.1, there P, takes P, m));
       is_one = inl refl;
     }
 
-    -- on their own processor they serve, and take no time
-    own_serves : {latest before low : ℕ} → latest ≤ f → Holds (has idle p) → before ≤ low → Smallest latest before low before
-    own_serves h i b = record {
+    -- on their own processor they serve, and take no time where that is free
+    own_serves : {latest before low : ℕ} → latest ≤ f → Holds (has idle p) → entry costs p p ≡ 0 → before ≤ low
+        → Smallest latest before low before
+    own_serves h i e b = record {
       to_low = b;
       to_each = λ P v. omega arith;
-      is_one = inr (p, (i, omega (arith, there p, takes p, to_own)), omega (arith, to_own));
+      is_one = inr (p, (i, omega (arith, there p, takes p, to_own e)), omega (arith, to_own e));
     }
 
-    module _ {latest : ℕ} (not_own : latest ≤ f → Holds (has idle p) → ⊥) where
+    module _ {latest : ℕ} (not_own : latest ≤ f → Holds (has idle p) → entry costs p p ≡ 0 → ⊥) where
       -- elsewhere they take what the nearest processor takes, and are there when the tick ends
       no_less : {first : ℕ} (before : ℕ) → first ≡ max latest (f + w * get_or nearest p 0)
           → (P : ℕ) → Served idle latest (λ P. f + w * get_or (get_or costs p []) P 0) P
           → before + (first - f) ≤ w * get_or (get_or costs p []) P 0 + before
-      no_less {first} before e P v = go (same_or_not P p)
+      no_less {first} before e P v = go (same_or_not P p) (same_or_not (entry costs p P) 0)
         where
-          go : (P ≡ p) ⊎ (P ≡ p → ⊥) → before + (first - f) ≤ w * get_or (get_or costs p []) P 0 + before
-          go (inl d) =
-              let free : time P ≡ 0 = rw d to_own in
-              absurd (not_own (omega (arith, v.1, takes P, free)) (rw d at v.0))
-          go (inr d) =
+          other : ((P ≡ p) × (entry costs p P ≡ 0) → ⊥) → before + (first - f) ≤ w * get_or (get_or costs p []) P 0 + before
+          other d =
               let near : w * get_or nearest p 0 ≤ time P = rw (p-is, w-is) (B.to_other P v.0 (rw p-is at d)) in
               omega (arith, e, v.1, takes P, near)
+
+          go : (P ≡ p) ⊎ (P ≡ p → ⊥) → (entry costs p P ≡ 0) ⊎ (entry costs p P ≡ 0 → ⊥)
+              → before + (first - f) ≤ w * get_or (get_or costs p []) P 0 + before
+          go (inl d) (inl z) =
+              let itself : entry costs p p ≡ 0 = rw d at z in
+              let free : time P ≡ 0 = rw d (to_own itself) in
+              absurd (not_own (omega (arith, v.1, takes P, free)) (rw d at v.0) itself)
+          go (inl d) (inr n) = other (λ b. n b.1)
+          go (inr n) z = other (λ b. n b.0)
 
     -- by the row of costs, and by the messages
     as_sent : (before : ℕ) {latest low r : ℕ} → SmallestOf (Served idle latest (λ P. f + w * get_or (get_or costs p []) P 0))
@@ -148,7 +157,10 @@ module _ (y : Joined-soonest-latest) where
 
   first_is : y.if-soonest-latest.first ≡ max y.args.latest (y.sent_along-sent.result.finish
       + y.sent_along-sent.result.count * get_or y.args.nearest.now y.sent_along-sent.result.processor 0)
-  first_is = ⊎_elim (λ w. omega (arith, w.0.true, w.1)) (λ w. omega (arith, w.0.false, w.1)) y.if-soonest-latest.branch
+  first_is = elim y.if-soonest-latest.branch [
+    then-soonest-latest w ↦ omega (arith, w.if-soonest-latest.true, w.first-is)
+    | else-soonest-latest w ↦ omega (arith, w.if-soonest-latest.false, w.first-is)
+  ]
 
   -- the tick is no later than the messages are there at the greatest cost
   served_most : y.args.latest
@@ -156,9 +168,13 @@ module _ (y : Joined-soonest-latest) where
   served_most = omega (arith, y.if-finish-count.false)
 
   not_there : y.args.latest ≤ y.sent_along-sent.result.finish
-      → Holds (has y.args.idle y.sent_along-sent.result.processor) → ⊥
-  not_there =
-      ⊎_elim (λ w h i. bit_of _ _ w.1.false i) (λ w h i. absurd (omega (arith, w.left))) y.if-latest-finish.branch
+      → Holds (has y.args.idle y.sent_along-sent.result.processor)
+      → entry y.args.costs.now y.sent_along-sent.result.processor y.sent_along-sent.result.processor ≡ 0 → ⊥
+  not_there = elim y.if-latest-finish.branch [
+    then-latest-finish+then-idle-p-eq1+else-costs-p-eq0 w ↦ λ h i z. absurd (omega (arith, w.if-costs-p-eq0.false, z))
+    | then-latest-finish+else-idle-p-eq1 w ↦ λ h i z. bit_of _ _ w.if-idle-p-eq1.false i
+    | else-latest-finish w ↦ λ h i z. absurd (omega (arith, w.if-latest-finish.false))
+  ]
 
 -- ---- the needs
 pub sent_along-sent-requires : goal.sent_along-sent-requires
@@ -185,10 +201,18 @@ pub overflow_shr-idle : goal.overflow_shr-idle
 overflow_shr-idle c =
     omega (arith, small (goal.at.overflow_shr-idle c).After-sent_along-sent)
 
-pub returns-then-idle-p-eq1 : goal.returns-then-idle-p-eq1
-returns-then-idle-p-eq1 c =
-    own_serves (sends (goal.at.returns-then-idle-p-eq1 c).After-sent_along-sent) (costs_are (goal.at.returns-then-idle-p-eq1 c).After-sent_along-sent) (p_sent (goal.at.returns-then-idle-p-eq1 c).After-sent_along-sent) (w_sent (goal.at.returns-then-idle-p-eq1 c).After-sent_along-sent) (f_sent (goal.at.returns-then-idle-p-eq1 c).After-sent_along-sent) (omega (arith, c.if-latest-finish.true))
-    (bit_in _ _ (omega (arith, c.if-idle-p-eq1.true))) c.requires.k_in_bounds.4
+pub returns-then-costs-p-eq0 : goal.returns-then-costs-p-eq0
+returns-then-costs-p-eq0 c =
+    let x = (goal.at.returns-then-costs-p-eq0 c).After-sent_along-sent in
+    own_serves (sends x) (costs_are x) (p_sent x) (w_sent x) (f_sent x) (omega (arith, c.if-latest-finish.true))
+    (bit_in _ _ (omega (arith, c.if-idle-p-eq1.true))) (omega (arith, c.if-costs-p-eq0.true)) c.requires.k_in_bounds.4
+
+pub bounds-costs-p-then-idle-p-eq1 : goal.bounds-costs-p-then-idle-p-eq1
+bounds-costs-p-then-idle-p-eq1 c =
+    small (goal.at.bounds-costs-p-then-idle-p-eq1 c).After-sent_along-sent
+
+pub bounds-costs-p-2 : goal.bounds-costs-p-2
+bounds-costs-p-2 c = small (goal.at.bounds-costs-p-2 c).After-sent_along-sent
 
 pub offset_bounds-nearest-p : goal.offset_bounds-nearest-p
 offset_bounds-nearest-p c =

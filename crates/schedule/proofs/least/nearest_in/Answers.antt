@@ -9,17 +9,17 @@ use lib.ListN.{get_or}
 use Rattle.base.specs.Laws.Tests.{same_or_not}
 use Rattle.schedule.specs.CoverPass.{NoMore}
 use Rattle.schedule.proofs.least.nearest_in.Goals as goal
-use Rattle.schedule.proofs.least.nearest_in.Goals.{else-q-p, then-q-p+else-cost-least, then-q-p+then-cost-least}
+use Rattle.schedule.proofs.least.nearest_in.Goals.{else-q-p+else-cost-ne0, then-q-p+else-cost-least, then-q-p+then-cost-least}
 
 -- one place more
 module _ {row : List ℕ} {q p most least least' : ℕ} (N : NoMore row q p most least) where
-  one_more : least' ≤ least → ((q ≡ p → ⊥) → least' ≤ get_or row q 0) → NoMore row (q + 1) p most least'
+  one_more : least' ≤ least → (((q ≡ p) × (get_or row q 0 ≡ 0) → ⊥) → least' ≤ get_or row q 0) → NoMore row (q + 1) p most least'
   one_more h k = record {
     to_most = omega (arith, N.to_most);
     to_each = λ i b d. each i b d (same_or_not i q);
   }
     where
-      each : (i : ℕ) → i < q + 1 → (i ≡ p → ⊥) → (i ≡ q) ⊎ (i ≡ q → ⊥) → least' ≤ get_or row i 0
+      each : (i : ℕ) → i < q + 1 → ((i ≡ p) × (get_or row i 0 ≡ 0) → ⊥) → (i ≡ q) ⊎ (i ≡ q → ⊥) → least' ≤ get_or row i 0
       each i b d (inl e) = rw e (k (rw e at d))
       each i b d (inr n) = omega (arith, N.to_each i (omega arith) d)
 
@@ -32,7 +32,11 @@ loop-q-preserved c =
     let v = c.loop-q.invariant in (
       search rules,
       search rules,
-      (elim c.if-q-p.branch [ then-q-p+then-cost-least w ↦ one_more v.2 (omega (arith, w.if-cost-least.true, w.least-is)) (λ d. omega (arith, w.least-is)) | then-q-p+else-cost-least w ↦ one_more v.2 (omega (arith, w.least-is)) (λ d. omega (arith, w.if-cost-least.false, w.least-is)) | else-q-p w ↦ one_more v.2 (omega (arith, w.least-is)) (λ d. absurd (d w.if-q-p.false)) ]),
+      (elim c.if-q-p.branch [
+        then-q-p+then-cost-least w ↦ one_more v.2 (omega (arith, w.if-cost-least.true, w.least-is)) (λ d. omega (arith, w.least-is))
+        | then-q-p+else-cost-least w ↦ one_more v.2 (omega (arith, w.least-is)) (λ d. omega (arith, w.if-cost-least.false, w.least-is))
+        | else-q-p+else-cost-ne0 w ↦ one_more v.2 (omega (arith, w.least-is)) (λ d. absurd (d (omega (arith, w.if-q-p.false), omega (arith, w.if-cost-ne0.false))))
+      ]),
     )
 
 pub returns : goal.returns

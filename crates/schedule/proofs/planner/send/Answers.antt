@@ -7,7 +7,7 @@ use borrow.Author.Rules.{rules}
 use lib.ListN.{get_or}
 use Rattle.etf.specs.Bounds.{most_message_time}
 use Rattle.schedule.specs.Pass.{ToSend, inbox}
-use Rattle.schedule.specs.Laws.Rows.Lifted.{lifted, unlifted}
+use Rattle.schedule.specs.Laws.Rows.Lifted.{Lifted, lifted, unlifted}
 use Rattle.schedule.specs.Laws.Planner.Sending.{still_waits}
 use Rattle.schedule.proofs.planner.send.Invariants.{begun, sent, turn}
 use Rattle.schedule.proofs.planner.send.Goals as goal
@@ -47,14 +47,15 @@ pub loop-k-preserved : goal.loop-k-preserved
 loop-k-preserved c =
     let t = c.index-t.ensures in
     let v = c.loop-k.invariant in
-        record {
+    let raised : Lifted c.index-t.result c.args.finish c.loop-k.latest c.if-latest-t.latest = elim c.if-latest-t.branch [ then-latest-t w ↦ lifted _ _ _ _ w.if-latest-t.true w.latest-is (omega (arith, t.1, v.latest_size, (asked (goal.at.loop-k-preserved c).At-loop-k).latest_size)) | else-latest-t w ↦ unlifted _ _ _ _ w.if-latest-t.false w.latest-is ] in
+    record {
       from_first = omega (arith, v.from_first);
       to_last = search rules;
       arrivals_size = c.raise.auto.arrivals ∙ v.arrivals_size;
       waiting_size = search rules;
-      latest_size = (elim c.if-latest-t.branch [ then-latest-t w ↦ lifted _ _ _ _ w.if-latest-t.true w.latest-is (omega (arith, t.1, v.latest_size, (asked (goal.at.loop-k-preserved c).At-loop-k).latest_size)) | else-latest-t w ↦ unlifted _ _ _ _ w.if-latest-t.false w.latest-is ]).size ∙ v.latest_size;
+      latest_size = raised.size ∙ v.latest_size;
       sent = turn _ _ _ _ _ _ _ _ t.0 v.from_first _ _ _ _ _
-          c.wide16.ensures v.sent c.raise.ensures (elim c.if-latest-t.branch [ then-latest-t w ↦ lifted _ _ _ _ w.if-latest-t.true w.latest-is (omega (arith, t.1, v.latest_size, (asked (goal.at.loop-k-preserved c).At-loop-k).latest_size)) | else-latest-t w ↦ unlifted _ _ _ _ w.if-latest-t.false w.latest-is ])
+          c.wide16.ensures v.sent c.raise.ensures raised
           (asked (goal.at.loop-k-preserved c).At-loop-k).few_processors (omega (arith, t.1, v.waiting_size, (asked (goal.at.loop-k-preserved c).At-loop-k).waiting_size)) (
             still_waits _ _ _ _ t.0 v.from_first _ c.args.waiting.now c.loop-k.waiting
             v.sent.waiting_at (asked (goal.at.loop-k-preserved c).At-loop-k).enough (search rules)

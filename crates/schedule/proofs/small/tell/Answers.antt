@@ -59,12 +59,13 @@ pub loop-k-preserved : goal.loop-k-preserved
 loop-k-preserved c =
     let t = c.index-t.ensures in
     let v = c.loop-k.invariant in
-        record {
+    let raised : Lifted c.index-t.result c.args.finish c.loop-k.scratch c.if-scratch-t.scratch = elim c.if-scratch-t.branch [ then-scratch-t w ↦ lifted _ _ _ _ w.if-scratch-t.true w.scratch-is (omega (arith, t.1, v.scratch_size, (asked (goal.at.loop-k-preserved c).At-loop-k).scratch_room)) | else-scratch-t w ↦ unlifted _ _ _ _ w.if-scratch-t.false w.scratch-is ] in
+    record {
       from_first = omega (arith, v.from_first);
       to_last = search rules;
       waiting_size = search rules;
-      scratch_size = (elim c.if-scratch-t.branch [ then-scratch-t w ↦ lifted _ _ _ _ w.if-scratch-t.true w.scratch-is (omega (arith, t.1, v.scratch_size, (asked (goal.at.loop-k-preserved c).At-loop-k).scratch_room)) | else-scratch-t w ↦ unlifted _ _ _ _ w.if-scratch-t.false w.scratch-is ]).size ∙ v.scratch_size;
-      told = turn _ _ _ _ _ _ _ _ _ _ t.0 v.from_first v.told (elim c.if-scratch-t.branch [ then-scratch-t w ↦ lifted _ _ _ _ w.if-scratch-t.true w.scratch-is (omega (arith, t.1, v.scratch_size, (asked (goal.at.loop-k-preserved c).At-loop-k).scratch_room)) | else-scratch-t w ↦ unlifted _ _ _ _ w.if-scratch-t.false w.scratch-is ]) t.1
+      scratch_size = raised.size ∙ v.scratch_size;
+      told = turn _ _ _ _ _ _ _ _ _ _ t.0 v.from_first v.told raised t.1
           (omega (arith, t.1, v.waiting_size, (asked (goal.at.loop-k-preserved c).At-loop-k).waiting_size)) (
             still_waits _ _ _ _ t.0 v.from_first _ c.args.waiting.now c.loop-k.waiting
             v.told.waiting_at (asked (goal.at.loop-k-preserved c).At-loop-k).enough (search rules)

@@ -1,7 +1,7 @@
 -- The least walks of the planner's schedule, read off the arrays: from each task a walk takes what the arrays have, and none takes less.
 -- A move of the arrays is one that a walk may make, and each of these is there. By induction on the walk, and on the task.
 use Rattle.std.specs.Prelude.{◌≡◌, ◌⊎◌, List, ℕ, zero, suc, ◌+◌, ◌*◌, ◌-◌, ◌^◌, ◌≤◌, ◌<◌, T as Holds}
-use Rattle.std.proofs.Common.{sym, ap, ◌∙◌, subst, inl, inr, mul-zero}
+use Rattle.std.proofs.Common.{sym, ap, ◌∙◌, subst, inl, inr}
 use Rattle.std.proofs.Math.Bool.{not}
 use Rattle.std.proofs.Math.Option.{Option, none, some}
 use Rattle.std.proofs.Math.Nat.{mul-le-mul_left}
@@ -97,13 +97,14 @@ module _ {A : InArrays} (F : Plannable A) {starts processors : List ℕ}
     pub between : Between A.durations A.from A.counts A.costs starts processors cost nearest (get_or sets (get_or A.to k 0) 0) k
     unfolding message_at greatest_in
     between = record {
-      near = messages_fit F cost-is k h;
-      to_most = λ P m. rw cost-is (mul-le-mul_left count (omega (
-        arith,
-        most_ge n (λ q. entry A.costs own q) P (within (get_or A.to k 0) P m),
-        most_ge n (λ r. most n (λ q. entry A.costs r q)) own own_there,
-      )));
-      to_own = rw (F.itself_free own own_there) (mul-zero count);
+      at_most = record {
+        near = messages_fit F cost-is k h;
+        to_most = λ P m. rw cost-is (mul-le-mul_left count (omega (
+          arith,
+          most_ge n (λ q. entry A.costs own q) P (within (get_or A.to k 0) P m),
+          most_ge n (λ r. most n (λ q. entry A.costs r q)) own own_there,
+        )));
+      };
       has_nearest = N.has_least;
       nearest_most = (N.no_more own own_there).to_most;
       to_other = λ P m d. mul-le-mul_left count ((N.no_more own own_there).to_each P (within (get_or A.to k 0) P m) d);
