@@ -4,7 +4,7 @@ use Rattle.std.proofs.Common.{inl, inr, ⊎_elim, ap, sym, ◌∙◌, zero-add, 
 use mathlib.Core.List.{List, [], ◌∷◌, ◌++◌, map, flat_map, append-nil}
 use Rattle.std.proofs.Math.ListN.{get_or-append}
 use Rattle.std.proofs.lemmas.List.Edits.{sets}
-use Rattle.std.proofs.lemmas.List.{set_append_left}
+use Rattle.std.proofs.lemmas.List.{set-append_left}
 use Rattle.base.specs.Choice.{pick}
 use Rattle.base.specs.Lists.{upto}
 use Rattle.base.specs.Text.{text}
@@ -77,7 +77,7 @@ set_row : (f g : ℕ → ℕ) (P i v : ℕ) → i < cells → g i ≡ v → ((j 
 unfolding row columns text
 set_row f g P i v h at other =
     let e : 4 + i ≡ suc (suc (suc (suc i))) = omega arith in
-    rw (e, set_append_left (map f (upto cells)) (text "|\n") i v (omega (arith, map-upto-length f cells)), set-map f g cells i v h at other)
+    rw (e, set-append_left (map f (upto cells)) (text "|\n") i v (omega (arith, map-upto-length f cells)), set-map f g cells i v h at other)
 
 -- a number below that is not the last
 ne_lt : (P n : ℕ) → P < suc n → (P ≡ n → ⊥) → P < n
@@ -119,7 +119,7 @@ module _ (c d : ℕ → ℕ → ℕ) (P i v : ℕ) (h : i < cells) (at : d P i �
       go (inr z) r =
           let k : 70 * P + (4 + i) < length (rows c n) = omega (arith, rows_size c n, lower) in
           let last = row_same (c n) (d n) n (λ j b. sym (other n j (λ w. z (sym w.0)))) in
-          rw (rows_more c n, set_append_left (rows c n) (row (c n) n) (70 * P + (4 + i)) v k, r lower, last, rows_more d n)
+          rw (rows_more c n, set-append_left (rows c n) (row (c n) n) (70 * P + (4 + i)) v k, r lower, last, rows_more d n)
         where
           lower : P < n
           lower = ne_lt P n p z
@@ -127,7 +127,7 @@ module _ (c d : ℕ → ℕ → ℕ) (P i v : ℕ) (h : i < cells) (at : d P i �
   -- of a page with something behind it
   pub set_cell : (n : ℕ) (rest : List ℕ) → P < n → set (rows c n ++ rest) (70 * P + (4 + i)) v ≡ rows d n ++ rest
   set_cell n rest p =
-      set_append_left (rows c n) rest (70 * P + (4 + i)) v (omega (arith, rows_size c n)) ∙ ap (λ (l : List ℕ). l ++ rest) (set_rows n p)
+      set-append_left (rows c n) rest (70 * P + (4 + i)) v (omega (arith, rows_size c n)) ∙ ap (λ (l : List ℕ). l ++ rest) (set_rows n p)
 
 -- ---- a run of cells
 
