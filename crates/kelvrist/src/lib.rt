@@ -1,4 +1,5 @@
-// The planners and the checker for C, on job bytes and plan bytes (document 01; document 02 §4 and §6), and the page of a plan (§3).
+// The planners and the checker on job bytes and plan bytes (document 01; document 02 §4 and §6), and the page of a plan (§3), as C calls
+// them: crate kelvrist_c exports each.
 mod encoding;
 
 ghost use Rattle.std.specs.Prelude.{◌≡◌, [], ◌≤◌, length};
@@ -104,24 +105,21 @@ fn plan_by(ties: Ties, job: &[u8], plan: &mut [u8]) -> u32
 }
 
 // Plans the job of `job` into 5 bytes a task of `plan`: 0, or the refusal's number.
-#[unsafe(no_mangle)]
-pub extern "C" fn kelvrist_plan(job: &[u8], plan: &mut [u8]) -> u32
+pub fn kelvrist_plan(job: &[u8], plan: &mut [u8]) -> u32
     ensures { returned result plan.new ≡ plan_bytes_call job.now plan.old }
 {
     plan_by(Ties::Number, job, plan)
 }
 
 // The same as `kelvrist_plan` with ties in start to the task with the longest work left (02 §6).
-#[unsafe(no_mangle)]
-pub extern "C" fn kelvrist_plan_by_weight(job: &[u8], plan: &mut [u8]) -> u32
+pub fn kelvrist_plan_by_weight(job: &[u8], plan: &mut [u8]) -> u32
     ensures { returned result plan.new ≡ weight_bytes_call job.now plan.old }
 {
     plan_by(Ties::Weight, job, plan)
 }
 
 // The number and bytes of `kelvrist_plan` with less memory (02 §4): arrivals are worked out when they are wanted.
-#[unsafe(no_mangle)]
-pub extern "C" fn kelvrist_plan_small(job: &[u8], plan: &mut [u8]) -> u32
+pub fn kelvrist_plan_small(job: &[u8], plan: &mut [u8]) -> u32
     ensures { returned result plan.new ≡ plan_bytes_call job.now plan.old }
 {
     let mut starts = [0u32; 256];
@@ -132,8 +130,7 @@ pub extern "C" fn kelvrist_plan_small(job: &[u8], plan: &mut [u8]) -> u32
 }
 
 // Judges 5 bytes a task of `plan` for the job of `job`: 0 for a yes, or the refusal's number. No byte past 5m is read.
-#[unsafe(no_mangle)]
-pub extern "C" fn kelvrist_check(job: &[u8], plan: &[u8]) -> u32
+pub fn kelvrist_check(job: &[u8], plan: &[u8]) -> u32
     ensures { result ≡ check_bytes_call job.now plan.now }
 {
     let mut starts = [0u32; 256];
@@ -148,8 +145,7 @@ pub extern "C" fn kelvrist_check(job: &[u8], plan: &[u8]) -> u32
 
 // Draws the page of 5 bytes a task of `plan` for the job of `job` at the front of `page` (02 §3): 0, or the refusal's number. No byte
 // past 5m of the plan is read.
-#[unsafe(no_mangle)]
-pub extern "C" fn kelvrist_page(job: &[u8], plan: &[u8], page: &mut [u8]) -> u32
+pub fn kelvrist_page(job: &[u8], plan: &[u8], page: &mut [u8]) -> u32
     ensures { drew result page.new ≡ page_bytes_call job.now plan.now page.old }
 {
     let mut starts = [0u32; 256];

@@ -9,8 +9,7 @@ use Rattle.schedule.specs.declared.Figures.{Figures}
 use Rattle.schedule.specs.declared.Covered.{Covered}
 use Rattle.schedule.specs.declared.Covered.TheVariants.{Cover}
 use Rattle.timing.specs.Timing.{refusal_in, numbers_in}
-use Rattle.timing.proofs.put_figures.Statement.{statement}
-use Rattle.timing.proofs.put_figures.Tie as tie
+use Rattle.timing.proofs.put_figures.Goals as goal
 
 three_places : (l : List ℕ) (x y z : ℕ) → 3 ≤ length l → set (set (set l 0 x) 1 y) 2 z ≡ x ∷ y ∷ z ∷ drop 3 l
 three_places [] x y z e = absurd (omega (arith, e))
@@ -24,43 +23,10 @@ put out f three h =
     let stored = three_places out f.cover f.least f.dearest three in
     (ap refusal_in (sym h), stored ∙ ap (λ (q : Covered). numbers_in q out) (sym h))
 
-enum-known-covered : tie.Need-enum-known-covered
-enum-known-covered c = search rules
+pub bounds-out-1 : goal.bounds-out-1
+bounds-out-1 c =
+    simp length-set (search rules)
 
-enum_told : tie.Need-enum-told
-enum_told c = search rules
-
-cover-refusal-requires : tie.Need-cover-refusal-requires
-cover-refusal-requires c κs = search rules
-
-returns : tie.Need-returns
-returns c = search rules
-
-slice-write-out : tie.Need-slice-write-out
-slice-write-out c = search rules
-
-slice-write-out-2 : tie.Need-slice-write-out-2
-slice-write-out-2 c = simp length-set (search rules)
-
-slice-write-out-3 : tie.Need-slice-write-out-3
-slice-write-out-3 c = search rules
-
-same_length : tie.Need-same-length
-same_length c = search rules
-
-returns-2 : tie.Need-returns-2
-returns-2 c = put _ _ c.before.before.before.before.requires c.before.covered.given.1
-
-pub put_figures_spec : {M : Type 1} → statement M
-put_figures_spec =
-    tie.close
-    (tie.spec
-    enum-known-covered
-    enum_told
-    cover-refusal-requires
-    returns
-    slice-write-out
-    slice-write-out-2
-    slice-write-out-3
-    same_length
-    returns-2)
+pub returns : goal.returns
+returns c =
+    put _ _ c.requires c.in-Cover.is

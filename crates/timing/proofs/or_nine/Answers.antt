@@ -3,14 +3,12 @@ use mathlib.Core.Path.{◌≡◌, ap, sym, ◌∙◌}
 use mathlib.Core.List.{List}
 use Prim.Native.Nat.{ℕ}
 use native.Mathlib.Omega.{arith}
-use borrow.Author.Rules.{rules}
 use Rattle.job.specs.declared.Reading.{Reading}
 use Rattle.job.specs.declared.Verdict.TheVariants.{Counts, Refused as NotRead}
 use Rattle.job.specs.Read.{read_job, verdict_number, reading_of}
 use Rattle.job.specs.Accepted.{counted, refused_is}
 use Rattle.timing.specs.Timing.{or_nine}
-use Rattle.timing.proofs.or_nine.Statement.{statement}
-use Rattle.timing.proofs.or_nine.Tie as tie
+use Rattle.timing.proofs.or_nine.Goals as goal
 
 -- what was read of the file
 module _ (file : List ℕ) {x : Reading} (e : x ≡ reading_of (read_job file)) where
@@ -24,30 +22,11 @@ module _ (file : List ℕ) {x : Reading} (e : x ≡ reading_of (read_job file)) 
   unfolding or_nine
   accepted_number {m} {l} v = sym (ap or_nine (counted (read_job file) m l (ap (λ (r : Reading). r.verdict) (sym e) ∙ v)).1)
 
-read-requires : tie.Need-read-requires
-read-requires c κs = search rules
+pub returns-in_default : goal.returns-in_default
+returns-in_default c =
+    refused_number _ c.read-r.ensures c.in_default.is
+    (omega (arith, c.wide8.ensures.0, c.number.ensures))
 
-enum_told : tie.Need-enum-told
-enum_told c = search rules
-
-enum-told-2 : tie.Need-enum-told-2
-enum-told-2 c = search rules
-
-number-requires : tie.Need-number-requires
-number-requires c κs = search rules
-
-wide8-requires : tie.Need-wide8-requires
-wide8-requires c κs = search rules
-
-returns : tie.Need-returns
+pub returns : goal.returns
 returns c =
-    let n = c.before in
-    let told = n.before in
-    refused_number _ told.before.before.read.ensures told.enum-told2.given.1
-    (omega (arith, c.wide8.ensures.0, n.number.ensures))
-
-returns-2 : tie.Need-returns-2
-returns-2 c = accepted_number _ c.before.before.read.ensures c.enum_told.given.1
-
-pub or_nine_spec : {M : Type 1} → statement M
-or_nine_spec = tie.close (tie.spec read-requires enum_told enum-told-2 number-requires wide8-requires returns returns-2)
+    accepted_number _ c.read-r.ensures c.in-Counts.is

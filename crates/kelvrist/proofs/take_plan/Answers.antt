@@ -3,7 +3,6 @@ use mathlib.Core.Path.{◌≡◌, ap, sym, ◌∙◌}
 use mathlib.Core.List.{List}
 use Prim.Native.Nat.{ℕ, ◌*◌, ◌≤◌, ◌<◌}
 use native.Mathlib.Omega.{arith}
-use borrow.Author.Rules.{rules}
 use borrow.Author.Tests.{lt-ltb, le-ltb}
 use lib.ListN.{length, get_or}
 use Rattle.job.specs.declared.Verdict.{Verdict}
@@ -17,8 +16,7 @@ use Rattle.etf.specs.Instance.{tasks}
 use Rattle.etf.specs.OfJob.{instance}
 use Rattle.kelvrist.specs.PlanBytes.{processor_in, start_in}
 use Rattle.kelvrist.specs.Pass.{taken_number, Taken}
-use Rattle.kelvrist.proofs.take_plan.Statement.{statement}
-use Rattle.kelvrist.proofs.take_plan.Tie as tie
+use Rattle.kelvrist.proofs.take_plan.Goals as goal
 
 -- the verdict w of a file: a refusal's number, ..
 module _ (file plan : List ℕ) {w : Verdict} (e : w ≡ (reading_of (read_job file)).verdict) where
@@ -66,86 +64,28 @@ module _ (file : List ℕ) {w : Verdict} (e : w ≡ (reading_of (read_job file))
     };
   }
 
--- ---- the places: the call of the reader, its counts, and a plan's bytes that are long enough
+pub returns-in_default : goal.returns-in_default
+returns-in_default c =
+    refuses _ _ c.verdict_on-verdict.ensures c.in_default.is
+    (omega (arith, c.wide8.ensures.0, c.number.ensures))
 
-abbrev call-of : tie.After-verdict → tie.After-verdict-on
-call-of v = v.before.before
+pub overflow_mul-bytes : goal.overflow_mul-bytes
+overflow_mul-bytes c =
+    record { fits = omega (arith, few _ c.verdict_on-verdict.ensures c.in-Counts.is) }
 
-abbrev verdict-of : tie.Else1 → tie.After-verdict
-verdict-of l = l.before.before
+pub returns-then-plan-bytes : goal.returns-then-plan-bytes
+returns-then-plan-bytes c =
+    too_short _ c.verdict_on-verdict.ensures c.in-Counts.is _ (omega (arith, c.if-plan-bytes.true))
 
-abbrev long_of : tie.After-get → tie.Else1
-long_of g = g.before.before.before
+pub get-requires : goal.get-requires
+get-requires c =
+    let small = few _ c.verdict_on-verdict.ensures c.in-Counts.is in
+    (omega (arith, small), omega (arith, small), omega (arith, c.if-plan-bytes.false))
 
-verdict-on-requires : tie.Need-verdict-on-requires
-verdict-on-requires c κs = search rules
-
-enum-known-verdict : tie.Need-enum-known-verdict
-enum-known-verdict c = search rules
-
-enum_told : tie.Need-enum-told
-enum_told c = search rules
-
-number-requires : tie.Need-number-requires
-number-requires c κs = search rules
-
-wide8-requires : tie.Need-wide8-requires
-wide8-requires c κs = search rules
-
-returns : tie.Need-returns
+pub returns : goal.returns
 returns c =
-    let n = c.before in
-    let told = n.before in
-    refuses _ _ told.before.before.verdict-on.ensures told.enum_told.given.1
-    (omega (arith, c.wide8.ensures.0, n.number.ensures))
-
-mul-bytes : tie.Need-overflow-mul-bytes
-mul-bytes c =
-    let v = c.before in
-    record { fits = omega (arith, few _ (call-of v).verdict-on.ensures v.verdict.given.1) }
-
-returns-2 : tie.Need-returns-2
-returns-2 c =
-    let v = c.before.before in
-    too_short _ (call-of v).verdict-on.ensures v.verdict.given.1 _ (omega (arith, c.if1.true))
-
-get-requires : tie.Need-get-requires
-get-requires c κs =
-    let l = c.before.before in
-    let v = verdict-of l in
-    let small = few _ (call-of v).verdict-on.ensures v.verdict.given.1 in
-    (omega (arith, small), omega (arith, small), omega (arith, l.if1.false))
-
-same_length : tie.Need-same-length
-same_length c = search rules
-
-same-length-2 : tie.Need-same-length-2
-same-length-2 c = search rules
-
-returns-3 : tie.Need-returns-3
-returns-3 c =
-    let g = c.before.before.before.before in
-    let l = long_of g in
-    let v = verdict-of l in
-    let room = (call-of v).before.before.before.before.before.pre in
-    let starts-kept = g.get.auto.1.1.0 in
-    let processors-kept = g.get.auto.1.1.1.0 in
-    takes _ (call-of v).verdict-on.ensures v.verdict.given.1 _ _ _ _ (omega (arith, l.if1.left))
-    (omega (arith, room.0, starts-kept)) (omega (arith, room.1, processors-kept)) g.get.ensures (omega arith)
-
-pub take_plan_spec : {M : Type 1} → statement M
-take_plan_spec =
-    tie.close
-    (tie.spec
-    verdict-on-requires
-    enum-known-verdict
-    enum_told
-    number-requires
-    wide8-requires
-    returns
-    mul-bytes
-    returns-2
-    get-requires
-    same_length
-    same-length-2
-    returns-3)
+    let room = c.requires in
+    let starts-kept = c.get.auto.starts in
+    let processors-kept = c.get.auto.processors in
+    takes _ c.verdict_on-verdict.ensures c.in-Counts.is _ _ _ _ (omega (arith, c.if-plan-bytes.false))
+    (omega (arith, room.0, starts-kept)) (omega (arith, room.1, processors-kept)) c.get.ensures (omega arith)

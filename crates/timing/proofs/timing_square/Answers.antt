@@ -3,14 +3,12 @@ use mathlib.Core.Path.{◌≡◌, sym, ap}
 use mathlib.Core.List.{List, []}
 use Prim.Native.Nat.{ℕ, ◌≤◌, ◌<◌}
 use native.Mathlib.Omega.{arith}
-use borrow.Author.Rules.{rules}
 use lib.ListN.{get_or, get_or-eq_default}
 use Rattle.etf.specs.Topology.{cost, square, entry}
 use Rattle.etf.specs.Laws.Costs.{square_length, row_length}
 use Rattle.costs.specs.Wires.{loaded}
 use Rattle.timing.specs.Timing.{square_timed}
-use Rattle.timing.proofs.timing_square.Statement.{statement}
-use Rattle.timing.proofs.timing_square.Tie as tie
+use Rattle.timing.proofs.timing_square.Goals as goal
 
 module _ (n t u : ℕ) (wires : List ℕ) (p q : ℕ) where
   abbrev cost_of : ℕ → ℕ → ℕ
@@ -30,39 +28,14 @@ module _ (n t u : ℕ) (wires : List ℕ) (p q : ℕ) where
   unfolding square_timed
   found costs e = ap (λ (rows : List (List ℕ)). entry rows p q) e
 
-square-requires : tie.Need-square-requires
-square-requires c κs = search rules
+pub returns-then-p-ge16 : goal.returns-then-p-ge16
+returns-then-p-ge16 c =
+    no_row _ _ _ _ _ _ (omega (arith, c.if-p-ge16.true))
 
-returns : tie.Need-returns
-returns c = no_row _ _ _ _ _ _ (omega (arith, c.if1.true))
+pub returns-then-q-ge16 : goal.returns-then-q-ge16
+returns-then-q-ge16 c =
+    no_column _ _ _ _ _ _ (omega (arith, c.if-p-ge16.false)) (omega (arith, c.if-q-ge16.true))
 
-returns-2 : tie.Need-returns-2
-returns-2 c = no_column _ _ _ _ _ _ (omega (arith, c.before.if1.false)) (omega (arith, c.if2.true))
-
-mul-result : tie.Need-overflow-mul-result
-mul-result c = search rules
-
-mul-result-2 : tie.Need-overflow-mul-result-2
-mul-result-2 c = search rules
-
-index-1-result : tie.Need-bounds-1-result
-index-1-result c = search rules
-
-index-2-result : tie.Need-bounds-2-result
-index-2-result c = search rules
-
-returns-3 : tie.Need-returns-3
-returns-3 c = found _ _ _ _ _ _ _ c.before.before.before.square.ensures
-
-pub timing_square_spec : {M : Type 1} → statement M
-timing_square_spec =
-    tie.close
-    (tie.spec
-    square-requires
-    returns
-    returns-2
-    mul-result
-    mul-result-2
-    index-1-result
-    index-2-result
-    returns-3)
+pub returns : goal.returns
+returns c =
+    found _ _ _ _ _ _ _ c.square-costs.ensures
