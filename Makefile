@@ -33,7 +33,7 @@ test:
 	@tests/gate
 
 check: has-rt
-	@rt check
+	@rt all check
 
 bench: bench-built
 	@target/bench crates/vectors
@@ -71,20 +71,19 @@ clean:
 	@rm -rf target
 
 # What is built is proved and written again where a file of its crates is newer. What is said of it goes to standard error.
-uses = $(shell sed -n 's/\#.*//; s/^$(1)://p' crates.txt)
+uses = $(shell sed -nE 's/\#.*//; s/^$(1)( staticlib)?://p' crates.txt)
 with_below = $(1) $(foreach used,$(call uses,$(1)),$(call with_below,$(used)))
 folders = $(wildcard $(addprefix crates/,$(sort $(call with_below,$(1)))))
-sources = crates.txt $(shell find $(call folders,$(1)) -name '*.rt' -o -name '*.antt')
-target/staticlib/libkelvrist.a: $(call sources,kelvrist)
+sources = crates.txt $(shell find $(call folders,$(1)) -name out -prune -o '(' -name '*.rt' -o -name '*.antt' ')' -print)
+target/staticlib/libkelvrist.a: $(call sources,kelvrist_c)
+	@tools/build kelvrist_c out/libkelvrist_c.a $@ >&2
 target/staticlib/libtiming.a: $(call sources,timing)
-target/staticlib/lib%.a:
-	@tools/prove staticlib $* >&2
+	@tools/build timing out/libtiming.a $@ >&2
 
 target/bin/plan: $(call sources,plan)
 target/bin/page: $(call sources,page)
 target/bin/%:
-	@tools/prove check $* >&2
-	@touch $@
+	@tools/build $* out/$* $@ >&2
 
 # What is missing is said before anything is built.
 job-named:
