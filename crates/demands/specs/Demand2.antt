@@ -19,15 +19,16 @@ use Rattle.etf.specs.Rule.{choice, planned}
 use Rattle.etf.specs.Cover.{Walk, FinishesLast, cover}
 use Rattle.etf.specs.Dearest.{Chain, price, dearest}
 use Rattle.etf.specs.Checker.{Keeps}
-use Rattle.etf.specs.Walks.{CoverWalk, cover_walk}
-use Rattle.etf.specs.WorstCase.{walk_within}
-use Rattle.etf.specs.LeastWalks.{one_has, none_less, at_most_cover}
+use Rattle.etf.specs.Walks.{CoverWalk}
+use Rattle.etf.proofs.Walks.{cover_walk}
+use Rattle.etf.proofs.WorstCase.{walk_within}
+use Rattle.etf.proofs.LeastWalks.{one_has, none_less, at_most_cover}
 use Rattle.etf.specs.Weight.{weight}
 use Rattle.etf.specs.OfJob.{instance, instance_by_weight, TieRule, result_of}
 use Rattle.etf.specs.Priority.{HeavierFirst, ChoiceIs}
-use Rattle.etf.specs.Weights.{weight_rule, weight_only}
-use Rattle.etf.specs.Choices.{choice_by_number, choice_of_job}
-use Rattle.etf.specs.Jobs.{by_number, by_weight, well_formed}
+use Rattle.etf.proofs.Weights.{weight_rule, weight_only}
+use Rattle.etf.proofs.Choices.{choice_by_number, choice_of_job}
+use Rattle.etf.proofs.Jobs.{by_number, by_weight, well_formed}
 use Rattle.schedule.specs.declared.Planned.TheVariants.{Plan}
 use Rattle.schedule.specs.declared.Covered.TheVariants.{Cover}
 use Rattle.schedule.specs.declared.Checked.TheVariants.{Yes}

@@ -11,9 +11,9 @@ use Rattle.etf.specs.Schedule.{end, dearest_result}
 use Rattle.etf.specs.Rule.{planned}
 use Rattle.etf.specs.Dearest.{dearest}
 use Rattle.etf.specs.OfJob.{instance, instance_by_weight, TieRule, result_of}
-use Rattle.etf.specs.Jobs.{by_number, by_weight, well_formed, within, least_within}
-use Rattle.etf.specs.Jobs.{without_results as without}
-use Rattle.etf.specs.WorstCase.{some_ideal}
+use Rattle.etf.proofs.Jobs.{by_number, by_weight, well_formed, within, least_within}
+use Rattle.etf.proofs.Jobs.{without_results as without}
+use Rattle.etf.proofs.WorstCase.{some_ideal}
 use Rattle.etf.specs.Results.{WithinResults}
 use Rattle.schedule.specs.declared.Planned.TheVariants.{Plan}
 use Rattle.schedule.specs.declared.Covered.TheVariants.{Cover}

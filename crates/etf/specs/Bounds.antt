@@ -1,5 +1,5 @@
 -- How great the numbers of an accepted job can be: each bound comes from the ones before it and from the limits of document 01.
-use Rattle.std.specs.Prelude.{◌≡◌, refl, ℕ, ◌+◌, ◌*◌, ◌-◌, max}
+use Rattle.std.specs.Prelude.{ℕ, ◌+◌, ◌*◌, ◌-◌, max}
 use Rattle.job.specs.Limits.{most_unit, most_wire_cost, most_duration, most_count, most_tasks}
 
 -- the hops of a way: a ring's are at most half of its processors, a hypercube's at most four
@@ -33,7 +33,3 @@ most_chain = (most_tasks - 1) * most_message_time
 -- 02 §6: the weight of a task: no chain has a task twice
 abbrev pub most_weight : ℕ
 most_weight = most_tasks * most_duration
-
--- as document 01 has them
-pub as_written : (most_cost ≡ 800) × (most_finish ≡ 460000000)
-as_written = (refl, refl)

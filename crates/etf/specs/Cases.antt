@@ -2,9 +2,8 @@
 -- words settle and its list does not have, cases of document 02 §1, §2, §6 and §7, and the small inputs of the refusal table that are the
 -- checker's. In the documents' words.
 use Rattle.std.proofs.Math.Option.{Option, none, some, bind, or_else}
-use Rattle.std.specs.Prelude.{◌≡◌, refl, ℕ, get_or}
-use Rattle.std.proofs.Common.{sym, ◌∙◌}
-use mathlib.Core.List.{List, [], ◌∷◌, ◌++◌, map, flat_map, map-append}
+use Rattle.std.specs.Prelude.{◌≡◌, ℕ, get_or}
+use mathlib.Core.List.{List, [], ◌∷◌, ◌++◌, map, flat_map}
 use Rattle.base.specs.Lists.{upto, any, all, filter, greatest, smallest, keep, best}
 use Rattle.job.specs.declared.Platform.{Platform}
 use Rattle.job.specs.Job.{Edge, Wire, Result, wire_cost, result_count, Job, blank, with_rack, with_wires, with_tasks, with_edges, job_with_results}
@@ -108,7 +107,7 @@ abbrev totals : ℕ → ℕ → ℕ → ℕ → List (List ℕ)
 totals e c l d = (e ∷ []) ∷ (c ∷ []) ∷ (l ∷ []) ∷ (d ∷ []) ∷ []
 
 -- document 01's worked cases
-pub worked : List Case
+unfoldable pub worked : List Case
 worked =
     -- A
     plan (rack 2 0 2) (4 ∷ 3 ∷ 2 ∷ []) (link 0 2 1 ∷ link 1 2 3 ∷ []) (row 0 0 0 4 ∷ row 1 1 0 3 ∷ row 2 1 6 8 ∷ totals 8 6 2 6)
@@ -142,7 +141,7 @@ sent boards starts number = record {
 }
 
 -- the two ways between a pair differ
-pub unequal : List Case
+unfoldable pub unequal : List Case
 unequal =
     -- A with counts of 1: step 2 goes to board 0 where the way there is cheap, and else to board 1
     record {
@@ -178,7 +177,7 @@ abbrev two : List Result → Job
 two results = job_with_results (job (rack 2 0 1) [] (5 ∷ 2 ∷ []) []) results
 
 -- the end with results, and the dearest result time
-pub delivered : List Case
+unfoldable pub delivered : List Case
 delivered =
     -- A: the result of step 2, on board 1, is at the gate 2 ticks after the last finish; C stays 6
     record { question = plan_of A_delivered; lines = row 0 0 0 4 ∷ row 1 1 0 3 ∷ row 2 1 6 8 ∷ totals 10 6 2 6 }
@@ -240,7 +239,7 @@ abbrev at_once : Job
 at_once = flat 2 1 (3 ∷ 2 ∷ 1 ∷ 3 ∷ 1 ∷ []) (link 0 2 1 ∷ link 0 3 1 ∷ link 1 4 2 ∷ [])
 
 -- ties by the longest work left
-pub by_weight : List Case
+unfoldable pub by_weight : List Case
 by_weight =
     -- a long branch: by number steps 0 and 1 go first, and step 4, of 4 ticks, begins at 2; by weight step 2 goes first, and the end is
     -- 5 in place of 6
@@ -263,7 +262,7 @@ by_weight =
 
 -- document 02 §7: C, the least cover, and why the one is below the other or is not. In case A both boards are idle in tick 5, and through
 -- board 1 step 0's bundle of 2 serves in place of step 1's of 6 to board 0; another idle board alone: `further`
-pub tightest : List Case
+unfoldable pub tightest : List Case
 tightest =
     -- another predecessor alone: from step 2 to step 0 at once, and not through step 1, whose bundle comes later
     plan (rack 2 0 1) (1 ∷ 1 ∷ 1 ∷ []) (link 0 1 1 ∷ link 0 2 1 ∷ link 1 2 1 ∷ [])
@@ -280,7 +279,7 @@ tightest =
     ∷ []
 
 -- what its words settle beside them
-pub further : List Case
+unfoldable pub further : List Case
 further =
     -- shortcut 3, E with one step more: board 1 is promised to step 2 from 5 on, so it is not free at 3, and step 3 waits for board 0
     plan (rack 2 0 2) (3 ∷ 2 ∷ 2 ∷ 2 ∷ []) (link 0 1 1 ∷ link 0 2 1 ∷ link 0 3 1 ∷ [])
@@ -309,7 +308,7 @@ further =
     ∷ []
 
 -- the refusal table's small inputs of 10 to 13, and what stands beside their limits
-pub checks : List Case
+unfoldable pub checks : List Case
 checks =
     -- 10: n = 2, board 2
     checked (5 ∷ []) [] (2 ∷ []) (0 ∷ []) 10
@@ -330,54 +329,9 @@ checks =
     ∷ []
 
 -- the table
-pub cases : List Case
+unfoldable pub cases : List Case
 cases = worked ++ (further ++ (unequal ++ (delivered ++ (by_weight ++ (tightest ++ checks)))))
 
 -- the lines of each case of a table answer its question
 abbrev pub Right : List Case → Type 0
 Right cs = map (λ (c : Case). answer c.question) cs ≡ map (λ (c : Case). c.lines) cs
-
--- two tables that hold make one that holds
-join : (a b : List Case) → Right a → Right b → Right (a ++ b)
-join a b p q =
-    map-append (λ (c : Case). answer c.question) a b
-    ∙ cc (p, q)
-    ∙ sym (map-append (λ (c : Case). c.lines) a b)
-
-worked_right : Right worked
-unfolding worked answer
-worked_right = refl
-
-further_right : Right further
-unfolding further answer
-further_right = refl
-
-unequal_right : Right unequal
-unfolding unequal answer
-unequal_right = refl
-
-delivered_right : Right delivered
-unfolding delivered answer
-delivered_right = refl
-
-by_weight_right : Right by_weight
-unfolding by_weight answer
-by_weight_right = refl
-
-tightest_right : Right tightest
-unfolding tightest answer
-tightest_right = refl
-
-checks_right : Right checks
-unfolding checks answer
-checks_right = refl
-
--- the table holds
-pub cases_hold : Right cases
-unfolding cases
-cases_hold =
-    join worked (further ++ (unequal ++ (delivered ++ (by_weight ++ (tightest ++ checks))))) worked_right
-    (join further (unequal ++ (delivered ++ (by_weight ++ (tightest ++ checks)))) further_right
-    (join unequal (delivered ++ (by_weight ++ (tightest ++ checks))) unequal_right
-    (join delivered (by_weight ++ (tightest ++ checks)) delivered_right
-    (join by_weight (tightest ++ checks) by_weight_right (join tightest checks tightest_right checks_right)))))

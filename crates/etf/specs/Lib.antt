@@ -11,19 +11,11 @@ pub mod Ideal
 pub mod Weight
 pub mod OfJob
 pub mod Bounds
--- what holds of them
+-- what theorems of proofs/ are stated with
 pub mod Cases
 pub mod Placing
-pub mod Verdict
 pub mod Walks
-pub mod Chains
 pub mod WorstCase
 pub mod Results
-pub mod LeastWalks
 pub mod Priority
-pub mod Weights
-pub mod Choices
-pub mod Jobs
 pub mod ChainJob
--- the proofs
-pub mod Laws

@@ -13,8 +13,8 @@ use Rattle.job.specs.Read.{Answer, accepted, refused, read_job}
 use Rattle.job.specs.Accepted.{Accepted, accepted_job}
 use Rattle.etf.specs.Instance.{Instance, tasks}
 use Rattle.etf.specs.OfJob.{instance, TieRule}
-use Rattle.etf.specs.Jobs.{same_tasks}
-use Rattle.etf.specs.Laws.OfJob.{few}
+use Rattle.etf.proofs.Jobs.{same_tasks}
+use Rattle.etf.proofs.Laws.OfJob.{few}
 use Rattle.schedule.specs.declared.Planned.{Planned}
 use Rattle.schedule.specs.declared.Planned.TheVariants.{Plan, Refused}
 use Rattle.schedule.specs.declared.Checked.{Checked}

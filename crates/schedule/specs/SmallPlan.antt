@@ -13,7 +13,7 @@ use Rattle.job.specs.Read.{Answer, accepted, refused, read_job}
 use Rattle.job.specs.Accepted.{accepted_job}
 use Rattle.etf.specs.Instance.{tasks}
 use Rattle.etf.specs.OfJob.{instance}
-use Rattle.etf.specs.Jobs.{by_number}
+use Rattle.etf.proofs.Jobs.{by_number}
 use Rattle.schedule.specs.declared.Outcome.{Outcome}
 use Rattle.schedule.specs.declared.Planned.{Planned}
 use Rattle.schedule.specs.declared.Planned.TheVariants.{Plan, Refused}

@@ -9,7 +9,7 @@ use Rattle.job.specs.Read.{accepted}
 use Rattle.etf.specs.Instance.{Instance, tasks}
 use Rattle.etf.specs.Schedule.{Placement, schedule_of}
 use Rattle.etf.specs.Checker.{Keeps}
-use Rattle.etf.specs.Verdict.{yes_exactly}
+use Rattle.etf.proofs.Verdict.{yes_exactly}
 use Rattle.etf.specs.OfJob.{instance}
 use Rattle.schedule.specs.declared.Checked.{Checked}
 use Rattle.schedule.specs.declared.Checked.TheVariants.{Yes, Refused}

@@ -9,7 +9,7 @@ use borrow.Author.Tests.{eq-eqb, ne_eqb}
 use lib.ListN.{get_or}
 use Rattle.job.specs.declared.Platform.{Platform}
 use Rattle.etf.specs.Topology.{hops, cost}
-use Rattle.etf.specs.Laws.Costs.{hops_near}
+use Rattle.etf.proofs.Laws.Costs.{hops_near}
 use Rattle.costs.specs.Wires.{loaded}
 use Rattle.costs.proofs.cost.Goals as goal
 

@@ -9,7 +9,7 @@ use lib.ListN.{length, get_or, set, replicate, length-set, get_or-replicate}
 use lib.Seq.{get_or-set_same, get_or-set_other, ext_get_or}
 use Rattle.base.specs.Laws.Tests.{lt_or_ge}
 use Rattle.etf.specs.Topology.{entry, square, cost}
-use Rattle.etf.specs.Laws.Costs.{square_length, row_length, square_at}
+use Rattle.etf.proofs.Laws.Costs.{square_length, row_length, square_at}
 use Rattle.costs.specs.Wires.{loaded}
 use Rattle.costs.proofs.square.Given as goal
 

@@ -23,7 +23,7 @@ use Rattle.etf.specs.Instance.{Instance, tasks}
 use Rattle.etf.specs.Schedule.{Placement, schedule_of}
 use Rattle.etf.specs.Checker.{Because, no_processor, too_late, overlaps, too_early}
 use Rattle.etf.specs.OfJob.{instance}
-use Rattle.etf.specs.Verdict.{number_only}
+use Rattle.etf.proofs.Verdict.{number_only}
 use Rattle.schedule.specs.declared.Checked.{Checked}
 use Rattle.schedule.specs.declared.Checked.TheVariants.{Yes, Refused as NotChecked}
 use Rattle.schedule.specs.Check.{check_of, checked_as, number_of, CheckerNumber, check_for, check_call}

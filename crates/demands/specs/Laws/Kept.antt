@@ -16,11 +16,12 @@ use Rattle.etf.specs.Schedule.{Placement, placement_of, schedule_of}
 use Rattle.etf.specs.Rule.{planned}
 use Rattle.etf.specs.Dearest.{Chain, price, dearest}
 use Rattle.etf.specs.Checker.{Keeps, check, Because, no_processor, too_late, overlaps, too_early}
-use Rattle.etf.specs.Verdict.{yes_exactly, number_only}
-use Rattle.etf.specs.Walks.{CoverWalk, cover_walk}
-use Rattle.etf.specs.Chains.{none_dearer, one_as_dear}
+use Rattle.etf.proofs.Verdict.{yes_exactly, number_only}
+use Rattle.etf.specs.Walks.{CoverWalk}
+use Rattle.etf.proofs.Walks.{cover_walk}
+use Rattle.etf.proofs.Chains.{none_dearer, one_as_dear}
 use Rattle.etf.specs.OfJob.{instance, TieRule}
-use Rattle.etf.specs.Jobs.{by_number, well_formed, dearest_same}
+use Rattle.etf.proofs.Jobs.{by_number, well_formed, dearest_same}
 use Rattle.schedule.specs.declared.Planned.TheVariants.{Refused as NotPlanned}
 use Rattle.schedule.specs.declared.Covered.TheVariants.{Cover, Refused as NotCovered}
 use Rattle.schedule.specs.declared.Checked.TheVariants.{Yes}

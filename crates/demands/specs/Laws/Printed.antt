@@ -11,7 +11,7 @@ use Rattle.etf.specs.Instance.{duration}
 use Rattle.etf.specs.Cover.{cover}
 use Rattle.etf.specs.Dearest.{dearest}
 use Rattle.etf.specs.OfJob.{instance}
-use Rattle.etf.specs.Jobs.{by_number}
+use Rattle.etf.proofs.Jobs.{by_number}
 use Rattle.schedule.specs.declared.Planned.TheVariants.{Plan}
 use Rattle.schedule.specs.declared.Covered.TheVariants.{Cover}
 use Rattle.schedule.specs.declared.Outcome.{Outcome}

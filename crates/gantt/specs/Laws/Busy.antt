@@ -11,8 +11,8 @@ use Rattle.base.specs.Laws.Lists.{any_of, any_one, greatest_ge}
 use Rattle.etf.specs.Instance.{Instance, duration}
 use Rattle.etf.specs.Schedule.{Placement, finish, last_finish}
 use Rattle.etf.specs.Cover.{busy}
-use Rattle.etf.specs.Laws.Running.{running_of}
-use Rattle.etf.specs.Laws.Placements.{busy_in, busy_of}
+use Rattle.etf.proofs.Laws.Running.{running_of}
+use Rattle.etf.proofs.Laws.Placements.{busy_in, busy_of}
 use Rattle.gantt.specs.Page.{cells, width, ticks_within, runs_within}
 
 module _ (I : Instance) (ps : List Placement) where

@@ -8,8 +8,8 @@ use Rattle.job.specs.Job.{Job}
 use Rattle.job.specs.Accepted.{accepted_job}
 use Rattle.etf.specs.Instance.{Instance}
 use Rattle.etf.specs.OfJob.{instance, TieRule}
-use Rattle.etf.specs.Jobs.{by_number}
-use Rattle.etf.specs.Laws.OfJob.{few}
+use Rattle.etf.proofs.Jobs.{by_number}
+use Rattle.etf.proofs.Laws.OfJob.{few}
 use Rattle.schedule.specs.declared.Outcome.{Outcome}
 use Rattle.schedule.specs.declared.Planned.{Planned}
 use Rattle.schedule.specs.declared.Planned.TheVariants.{Plan, Refused}

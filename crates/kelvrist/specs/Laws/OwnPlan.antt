@@ -13,8 +13,8 @@ use Rattle.etf.specs.Instance.{Instance, tasks}
 use Rattle.etf.specs.Schedule.{placement_of}
 use Rattle.etf.specs.Rule.{planned}
 use Rattle.etf.specs.OfJob.{instance, TieRule}
-use Rattle.etf.specs.Jobs.{well_formed, no_finish_passes}
-use Rattle.etf.specs.Laws.Planned.{home}
+use Rattle.etf.proofs.Jobs.{well_formed, no_finish_passes}
+use Rattle.etf.proofs.Laws.Planned.{home}
 use Rattle.schedule.specs.Call.{start_of, processor_of}
 use Rattle.schedule.specs.Check.{number_of}
 use Rattle.schedule.specs.Laws.Checker.Answer.{check_of_same}

@@ -21,8 +21,8 @@ use Rattle.etf.specs.Instance.{Instance, tasks, duration}
 use Rattle.etf.specs.Schedule.{placement_of}
 use Rattle.etf.specs.Rule.{planned}
 use Rattle.etf.specs.OfJob.{instance}
-use Rattle.etf.specs.Jobs.{by_number, well_formed, no_finish_passes}
-use Rattle.etf.specs.Laws.Planned.{home}
+use Rattle.etf.proofs.Jobs.{by_number, well_formed, no_finish_passes}
+use Rattle.etf.proofs.Laws.Planned.{home}
 use Rattle.schedule.specs.declared.Planned.{Planned}
 use Rattle.schedule.specs.declared.Planned.TheVariants.{Plan, Refused as NotPlanned}
 use Rattle.schedule.specs.declared.Figures.{Figures}

@@ -16,7 +16,7 @@ use Rattle.etf.specs.Instance.{Instance, tasks}
 use Rattle.etf.specs.Schedule.{schedule_of, by_task}
 use Rattle.etf.specs.Rule.{planned}
 use Rattle.etf.specs.OfJob.{instance}
-use Rattle.etf.specs.Jobs.{by_number}
+use Rattle.etf.proofs.Jobs.{by_number}
 use Rattle.schedule.specs.declared.Outcome.{Outcome}
 use Rattle.schedule.specs.declared.Planned.{Planned}
 use Rattle.schedule.specs.declared.Planned.TheVariants.{Plan, Refused as NotPlanned}

@@ -1,7 +1,7 @@
 -- `plan_small` passes the reader's number on, refuses by 9 where `lay_small` finds a slice too short, and else answers with the end of what
 -- it laid out.
 use mathlib.Core.Path.{sym}
-use Rattle.etf.specs.Jobs.{by_number}
+use Rattle.etf.proofs.Jobs.{by_number}
 use Rattle.etf.specs.OfJob.{instance, result_of}
 use Rattle.schedule.specs.declared.Planned.TheVariants.{Plan, Refused}
 use Rattle.schedule.specs.Plan.{outcome}

@@ -21,10 +21,10 @@ use Rattle.etf.specs.Cover.{cover}
 use Rattle.etf.specs.Dearest.{dearest}
 use Rattle.etf.specs.Least.{least}
 use Rattle.etf.specs.Checker.{Because, no_processor, too_late, overlaps, too_early}
-use Rattle.etf.specs.Verdict.{number_only}
+use Rattle.etf.proofs.Verdict.{number_only}
 use Rattle.etf.specs.Rule.{planned}
 use Rattle.etf.specs.OfJob.{instance, TieRule, result_of}
-use Rattle.etf.specs.Jobs.{same_tasks}
+use Rattle.etf.proofs.Jobs.{same_tasks}
 use Rattle.schedule.specs.declared.Checked.{Checked}
 use Rattle.schedule.specs.declared.Judged.{Judged}
 use Rattle.schedule.specs.declared.Checked.TheVariants.{Yes, Refused as NotChecked}

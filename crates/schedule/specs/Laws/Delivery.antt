@@ -9,8 +9,8 @@ use Rattle.etf.specs.Schedule.{Placement, placement_of, finish, last_finish, end
 use Rattle.etf.specs.Rule.{planned}
 use Rattle.etf.specs.Topology.{entry}
 use Rattle.etf.specs.Bounds.{most_message_time}
-use Rattle.etf.specs.Results.{end_before, by_task_lem}
-use Rattle.etf.specs.Laws.Planned.{home}
+use Rattle.etf.proofs.Results.{end_before, by_task_lem}
+use Rattle.etf.proofs.Laws.Planned.{home}
 use Rattle.schedule.specs.InArrays.{InArrays, instance_in, Plannable}
 use Rattle.schedule.specs.Call.{start_of, processor_of}
 use Rattle.schedule.specs.Plan.{last_of}

@@ -17,10 +17,10 @@ use Rattle.etf.specs.Schedule.{Placement, finish, arrival, last_finish}
 use Rattle.etf.specs.Rule.{begin, run, planned}
 use Rattle.etf.specs.Dearest.{dearest}
 use Rattle.etf.specs.Bounds.{most_message_time, most_finish, most_arrival}
-use Rattle.etf.specs.Laws.Ordered.{dearest_ordered}
-use Rattle.etf.specs.Laws.Placements.{into_of, into_in}
-use Rattle.etf.specs.Laws.Sound.{Opened}
-use Rattle.etf.specs.Laws.Times.{clock_after, finish_after, last_most, arrival_after}
+use Rattle.etf.proofs.Laws.Ordered.{dearest_ordered}
+use Rattle.etf.proofs.Laws.Placements.{into_of, into_in}
+use Rattle.etf.proofs.Laws.Sound.{Opened}
+use Rattle.etf.proofs.Laws.Times.{clock_after, finish_after, last_most, arrival_after}
 use Rattle.schedule.specs.InArrays.{InArrays, reordered, Plannable, instance_in}
 
 module _ {A : InArrays} (F : Plannable A) where

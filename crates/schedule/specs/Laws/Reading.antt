@@ -18,8 +18,8 @@ use Rattle.etf.specs.Instance.{Instance}
 use Rattle.etf.specs.Topology.{cost, square, entry}
 use Rattle.etf.specs.OfJob.{cost_in, costs_of, instance, result_of}
 use Rattle.etf.specs.Bounds.{most_cost, most_message_time}
-use Rattle.etf.specs.Laws.Costs.{square_same, cost_same, row_length}
-use Rattle.etf.specs.Laws.OfJob.{entry_most}
+use Rattle.etf.proofs.Laws.Costs.{square_same, cost_same, row_length}
+use Rattle.etf.proofs.Laws.OfJob.{entry_most}
 use Rattle.costs.specs.Wires.{loaded}
 use Rattle.schedule.specs.InArrays.{InArrays, in_number_order, instance_in, Ordering, Plannable}
 

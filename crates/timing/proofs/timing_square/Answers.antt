@@ -5,7 +5,7 @@ use Prim.Native.Nat.{ℕ, ◌≤◌, ◌<◌}
 use native.Mathlib.Omega.{arith}
 use lib.ListN.{get_or, get_or-eq_default}
 use Rattle.etf.specs.Topology.{cost, square, entry}
-use Rattle.etf.specs.Laws.Costs.{square_length, row_length}
+use Rattle.etf.proofs.Laws.Costs.{square_length, row_length}
 use Rattle.costs.specs.Wires.{loaded}
 use Rattle.timing.specs.Timing.{square_timed}
 use Rattle.timing.proofs.timing_square.Goals as goal

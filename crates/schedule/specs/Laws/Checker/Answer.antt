@@ -21,7 +21,7 @@ use Rattle.etf.specs.Instance.{Instance, tasks, duration, message_time}
 use Rattle.etf.specs.Schedule.{Placement, schedule_of}
 use Rattle.etf.specs.Topology.{entry}
 use Rattle.etf.specs.Checker.{latest_start, first_answer, misplaced, overlap, early, check}
-use Rattle.etf.specs.Laws.Checker.{overlap_of, overlap_in, early_of_lem, early_in, overlapping, hasty}
+use Rattle.etf.proofs.Laws.Checker.{overlap_of, overlap_in, early_of_lem, early_in, overlapping, hasty}
 use Rattle.schedule.specs.Check.{check_of, number_of}
 use Rattle.schedule.specs.InArrays.{InArrays, Plannable, instance_in}
 use Rattle.schedule.specs.Pass.{some_in_places, place_trouble, place_troubles, overlap_at, overlaps_later, early_at, reach_at, message_at}

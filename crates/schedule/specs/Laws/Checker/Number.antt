@@ -6,7 +6,7 @@ use Rattle.std.proofs.Math.ListN.{get_or}
 use Rattle.base.specs.Choice.{pick}
 use Rattle.etf.specs.Instance.{Instance}
 use Rattle.etf.specs.Schedule.{Placement}
-use Rattle.etf.specs.Laws.Checker.{overlapping, hasty}
+use Rattle.etf.proofs.Laws.Checker.{overlapping, hasty}
 use Rattle.schedule.specs.Check.{check_of, number_of}
 use Rattle.schedule.specs.InArrays.{InArrays, Plannable, instance_in}
 use Rattle.schedule.specs.Pass.{message_at, Judgeable, Joined, some_in_places, place_troubles, overlaps_later, early_at}

@@ -10,9 +10,9 @@ use Rattle.etf.specs.Instance.{Instance, tasks, duration}
 use Rattle.etf.specs.Schedule.{Placement, placed, finish, arrival}
 use Rattle.etf.specs.Rule.{State, begin, run, round, complete, choice, next_moment, ready}
 use Rattle.etf.specs.Bounds.{most_finish}
-use Rattle.etf.specs.Laws.Turn.{ready_of, NewPlacement, Tick}
-use Rattle.etf.specs.Laws.Rounds.{enough_rounds, run_last}
-use Rattle.etf.specs.Laws.Sound.{Sound, Opened, sound_start, sound_run}
+use Rattle.etf.proofs.Laws.Turn.{ready_of, NewPlacement, Tick}
+use Rattle.etf.proofs.Laws.Rounds.{enough_rounds, run_last}
+use Rattle.etf.proofs.Laws.Sound.{Sound, Opened, sound_start, sound_run}
 use Rattle.schedule.specs.declared.planner.Pair.{Pair}
 use Rattle.schedule.specs.declared.planner.Choice.{Choice}
 use Rattle.schedule.specs.InArrays.{InArrays, instance_in, Plannable}

@@ -17,9 +17,9 @@ use Rattle.graph.specs.Graph.{Runs}
 use Rattle.job.specs.Write.{edge_held}
 use Rattle.etf.specs.Instance.{Instance, tasks, message_time}
 use Rattle.etf.specs.Schedule.{Placement, placed, placement_of, finish, message_time_to, reach, last_finish}
-use Rattle.etf.specs.Laws.Placements.{placement_head, placement_tail, placed_head, placed_more, placed_less, placement_of_lem}
-use Rattle.etf.specs.Laws.Turn.{free_of, NewPlacement}
-use Rattle.etf.specs.Laws.Sound.{Sound}
+use Rattle.etf.proofs.Laws.Placements.{placement_head, placement_tail, placed_head, placed_more, placed_less, placement_of_lem}
+use Rattle.etf.proofs.Laws.Turn.{free_of, NewPlacement}
+use Rattle.etf.proofs.Laws.Sound.{Sound}
 use Rattle.schedule.specs.InArrays.{InArrays, instance_in, Plannable}
 use Rattle.schedule.specs.Pass.{sent_to, Sent, placed_mark, Skipped, Inbox, Tables, tables, marked}
 use Rattle.schedule.specs.Laws.Held.{held_tasks, within, edge_into}

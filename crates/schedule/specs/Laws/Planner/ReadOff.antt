@@ -22,9 +22,9 @@ use Rattle.job.specs.Write.{edge_held}
 use Rattle.etf.specs.Instance.{Instance, tasks, into}
 use Rattle.etf.specs.Schedule.{Placement, placed, placement_of, finish, reach, arrival}
 use Rattle.etf.specs.Rule.{next_moment, free, ready, complete}
-use Rattle.etf.specs.Laws.Placements.{arrival_ge, arrival_at}
-use Rattle.etf.specs.Laws.Turn.{free_of, taken_by, Ready, ready_of, ready_in, Next, endless, at, next_is}
-use Rattle.etf.specs.Laws.Sound.{Sound, Opened}
+use Rattle.etf.proofs.Laws.Placements.{arrival_ge, arrival_at}
+use Rattle.etf.proofs.Laws.Turn.{free_of, taken_by, Ready, ready_of, ready_in, Next, endless, at, next_is}
+use Rattle.etf.proofs.Laws.Sound.{Sound, Opened}
 use Rattle.etf.specs.Bounds.{most_finish}
 use Rattle.schedule.specs.InArrays.{InArrays, instance_in, Plannable}
 use Rattle.schedule.specs.Pass.{never, soonest, free_among, can_start, Tables}

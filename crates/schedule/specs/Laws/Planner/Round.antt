@@ -10,8 +10,8 @@ use Rattle.base.specs.Laws.Tests.{not_both, fails, pick_yes, pick_no}
 use Rattle.etf.specs.Instance.{Instance, WellFormed}
 use Rattle.etf.specs.Schedule.{Placement, finish}
 use Rattle.etf.specs.Rule.{State, at_most, move, settle, next_moment, choice, complete, round}
-use Rattle.etf.specs.Laws.Turn.{NewPlacement, Tick, Turn, rest, put, tick, stuck, turn, Next, endless, at, next_is}
-use Rattle.etf.specs.Laws.Rounds.{none_stuck}
+use Rattle.etf.proofs.Laws.Turn.{NewPlacement, Tick, Turn, rest, put, tick, stuck, turn, Next, endless, at, next_is}
+use Rattle.etf.proofs.Laws.Rounds.{none_stuck}
 use Rattle.etf.specs.Bounds.{most_finish}
 use Rattle.schedule.specs.Pass.{never}
 use Rattle.schedule.specs.Laws.Planner.Simulation.{state, never_or, pair_of}

@@ -17,9 +17,9 @@ use Rattle.graph.specs.Graph.{edges_to}
 use Rattle.etf.specs.Instance.{Instance, tasks}
 use Rattle.etf.specs.Schedule.{Placement, placed, placement_of, finish, arrival, last_finish}
 use Rattle.etf.specs.Rule.{begin, run, complete, planned}
-use Rattle.etf.specs.Laws.Placements.{placement_of_lem}
-use Rattle.etf.specs.Laws.Rounds.{complete_at, planned_by}
-use Rattle.etf.specs.Laws.Sound.{Sound, Opened}
+use Rattle.etf.proofs.Laws.Placements.{placement_of_lem}
+use Rattle.etf.proofs.Laws.Rounds.{complete_at, planned_by}
+use Rattle.etf.proofs.Laws.Sound.{Sound, Opened}
 use Rattle.schedule.specs.InArrays.{InArrays, instance_in, Plannable}
 use Rattle.schedule.specs.Call.{called, start_of, processor_of, scratch_at, arrival_places, laid_out_call}
 use Rattle.schedule.specs.Plan.{last_of}

@@ -21,8 +21,8 @@ use Rattle.etf.specs.Instance.{Instance, tasks, message_time}
 use Rattle.etf.specs.Schedule.{Placement, placed, placement_of, finish, message_time_to, reach}
 use Rattle.etf.specs.Rule.{State, run}
 use Rattle.etf.specs.Bounds.{most_finish}
-use Rattle.etf.specs.Laws.Placements.{placement_head, placement_tail, placed_less, placement_of_lem}
-use Rattle.etf.specs.Laws.Turn.{Ready, ready_of}
+use Rattle.etf.proofs.Laws.Placements.{placement_head, placement_tail, placed_less, placement_of_lem}
+use Rattle.etf.proofs.Laws.Turn.{Ready, ready_of}
 use Rattle.schedule.specs.declared.planner.Pair.{Pair}
 use Rattle.schedule.specs.declared.planner.Choice.{Choice}
 use Rattle.schedule.specs.InArrays.{InArrays, instance_in, Plannable}

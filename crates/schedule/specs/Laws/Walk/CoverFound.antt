@@ -15,7 +15,7 @@ use Rattle.etf.specs.Schedule.{Placement, placement_of, message_time_to}
 use Rattle.etf.specs.Rule.{planned}
 use Rattle.etf.specs.Cover.{Back, latest_idle_tick, lowest_idle, latest_into, back, walk, cover}
 use Rattle.etf.specs.Bounds.{most_message_time}
-use Rattle.etf.specs.Laws.Back.{walk_enough}
+use Rattle.etf.proofs.Laws.Back.{walk_enough}
 use Rattle.schedule.specs.Call.{start_of, processor_of}
 use Rattle.schedule.specs.InArrays.{InArrays, instance_in, Plannable}
 use Rattle.graph.specs.Graph.{edges_to}

@@ -19,14 +19,14 @@ use Rattle.etf.specs.Schedule.{Placement, placement_of, finish, message_time_to,
 use Rattle.etf.specs.Rule.{planned}
 use Rattle.etf.specs.Cover.{Back, busy, idle, latest_idle_tick, MayGoBack, Walk, stops, goes, FinishesLast}
 use Rattle.etf.specs.Least.{least}
-use Rattle.etf.specs.LeastWalks.{one_has, none_less}
+use Rattle.etf.proofs.LeastWalks.{one_has, none_less}
 use Rattle.etf.specs.Topology.{entry}
 use Rattle.etf.specs.Bounds.{most_message_time, most_chain}
-use Rattle.etf.specs.Laws.Idle.{idle_of}
-use Rattle.etf.specs.Laws.Back.{BackIs, nowhere, along, back_is}
-use Rattle.etf.specs.Laws.Placements.{into_of}
-use Rattle.etf.specs.Laws.Walk.{source}
-use Rattle.etf.specs.Laws.Planned.{on_processor, by_last, last_task_lem}
+use Rattle.etf.proofs.Laws.Idle.{idle_of}
+use Rattle.etf.proofs.Laws.Back.{BackIs, nowhere, along, back_is}
+use Rattle.etf.proofs.Laws.Placements.{into_of}
+use Rattle.etf.proofs.Laws.Walk.{source}
+use Rattle.etf.proofs.Laws.Planned.{on_processor, by_last, last_task_lem}
 use Rattle.graph.specs.Graph.{edges_to}
 use Rattle.schedule.specs.InArrays.{InArrays, instance_in, Plannable}
 use Rattle.schedule.specs.Pass.{message_at}

@@ -17,12 +17,12 @@ use Rattle.etf.specs.Rule.{planned}
 use Rattle.etf.specs.Cover.{busy, idle, some_idle, latest_idle_tick, lowest_idle}
 use Rattle.etf.specs.Checker.{Apart}
 use Rattle.etf.specs.Bounds.{most_message_time, most_finish}
-use Rattle.etf.specs.Laws.Running.{running_of}
-use Rattle.etf.specs.Laws.Placements.{busy_in, busy_of}
-use Rattle.etf.specs.Laws.Ticks.{placement_once}
-use Rattle.etf.specs.Laws.Idle.{idle_of, idle_in, LatestIdleTick, no_tick, at, latest_idle_tick_lem}
-use Rattle.etf.specs.Laws.Planned.{apart_pairs, sound_plan, home, on_processor}
-use Rattle.etf.specs.Laws.Times.{finish_most}
+use Rattle.etf.proofs.Laws.Running.{running_of}
+use Rattle.etf.proofs.Laws.Placements.{busy_in, busy_of}
+use Rattle.etf.proofs.Laws.Ticks.{placement_once}
+use Rattle.etf.proofs.Laws.Idle.{idle_of, idle_in, LatestIdleTick, no_tick, at, latest_idle_tick_lem}
+use Rattle.etf.proofs.Laws.Planned.{apart_pairs, sound_plan, home, on_processor}
+use Rattle.etf.proofs.Laws.Times.{finish_most}
 use Rattle.schedule.specs.Call.{start_of, processor_of}
 use Rattle.schedule.specs.InArrays.{InArrays, instance_in, Plannable}
 use Rattle.schedule.specs.CoverPass.{has, Scheduled, Running, ShortBefore, HoldsPlan}

@@ -11,11 +11,11 @@ use Rattle.job.specs.Job.{Edge}
 use Rattle.etf.specs.Instance.{Instance, WellFormed, tasks, duration, message_time}
 use Rattle.etf.specs.Schedule.{Placement, placement_of, finish, message_time_to, arrival, last_finish}
 use Rattle.etf.specs.Rule.{State, begin, round, run, planned}
-use Rattle.etf.specs.Laws.Placements.{placement_of_lem, into_of, arrival_at}
-use Rattle.etf.specs.Laws.Turn.{NewPlacement, Tick, Turn, rest, put, tick, stuck, turn}
-use Rattle.etf.specs.Laws.Sound.{Opened, Sound, same_arrival, sound_start, sound_round, sound_run}
-use Rattle.etf.specs.Laws.Rounds.{left, left_start, left_put}
-use Rattle.etf.specs.Laws.Planned.{home, last_task_lem}
+use Rattle.etf.proofs.Laws.Placements.{placement_of_lem, into_of, arrival_at}
+use Rattle.etf.proofs.Laws.Turn.{NewPlacement, Tick, Turn, rest, put, tick, stuck, turn}
+use Rattle.etf.proofs.Laws.Sound.{Opened, Sound, same_arrival, sound_start, sound_round, sound_run}
+use Rattle.etf.proofs.Laws.Rounds.{left, left_start, left_put}
+use Rattle.etf.proofs.Laws.Planned.{home, last_task_lem}
 
 module _ (I : Instance) (W : WellFormed I) (D B : ℕ)
     (short : (T : ℕ) → T < tasks I → duration I T ≤ D)

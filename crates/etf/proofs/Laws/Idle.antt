@@ -16,8 +16,8 @@ use Rattle.base.specs.Laws.Sums.{one_if_most, one_if_no, sum_le, sum_same, sum_l
 use Rattle.etf.specs.Instance.{Instance}
 use Rattle.etf.specs.Schedule.{Placement, finish}
 use Rattle.etf.specs.Cover.{busy, idle, some_idle, latest_idle_tick}
-use Rattle.etf.specs.Laws.Placements.{busy_in}
-use Rattle.etf.specs.Laws.Ticks.{idlers, idlers_sum}
+use Rattle.etf.proofs.Laws.Placements.{busy_in}
+use Rattle.etf.proofs.Laws.Ticks.{idlers, idlers_sum}
 
 module _ (I : Instance) (ps : List Placement) where
   pub idle_of : (t P : ℕ) → P ∈ idle I ps t → (P < I.processors) × Holds (not (busy I ps P t))

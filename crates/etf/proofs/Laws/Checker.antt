@@ -17,10 +17,10 @@ use Rattle.etf.specs.Schedule.{Placement, placement_of, finish, message_time_to,
 use Rattle.etf.specs.Rule.{planned}
 use Rattle.etf.specs.Checker.{latest_start, first_answer, Apart, InTime, Keeps, misplaced, overlap, early, check}
 use Rattle.etf.specs.Checker.{Because, no_processor, too_late, overlaps, too_early}
-use Rattle.etf.specs.Laws.Placements.{into_in, arrival_ge}
-use Rattle.etf.specs.Laws.Sound.{Sound}
-use Rattle.etf.specs.Laws.Ticks.{placement_once}
-use Rattle.etf.specs.Laws.Planned.{apart_pairs, last_clock, sound_plan, by_task_of}
+use Rattle.etf.proofs.Laws.Placements.{into_in, arrival_ge}
+use Rattle.etf.proofs.Laws.Sound.{Sound}
+use Rattle.etf.proofs.Laws.Ticks.{placement_once}
+use Rattle.etf.proofs.Laws.Planned.{apart_pairs, last_clock, sound_plan, by_task_of}
 
 -- what `first_answer` gives, where M a o says what answer o at a member a means: none at each member, or a number at one of them
 data First {A : Type 0} (M : A → Option ℕ → Type 0) (l : List A) : Option ℕ → Type 0 where

@@ -11,10 +11,10 @@ use Rattle.etf.specs.Schedule.{Placement, message_time_to}
 use Rattle.etf.specs.Rule.{planned}
 use Rattle.etf.specs.Cover.{Back, Walk, stops, goes, FinishesLast}
 use Rattle.base.specs.Laws.Lists.{in_nothing, smallest_le, smallest_at}
-use Rattle.etf.specs.Laws.Walk.{source}
-use Rattle.etf.specs.Laws.Planned.{last_task_lem}
+use Rattle.etf.proofs.Laws.Walk.{source}
+use Rattle.etf.proofs.Laws.Planned.{last_task_lem}
 use Rattle.etf.specs.Least.{moves, least_from, last_tasks, least}
-use Rattle.etf.specs.Laws.Moves.{moves_in, moves_of, moves_none, last_in, last_of, stops_only}
+use Rattle.etf.proofs.Laws.Moves.{moves_in, moves_of, moves_none, last_in, last_of, stops_only}
 
 -- what a move adds, and what f has of the task that it goes to
 abbrev pub by_move : Instance → List Placement → (ℕ → ℕ) → Back → ℕ

@@ -4,7 +4,7 @@ use Rattle.std.proofs.Math.Option.{none, some}
 use Rattle.etf.specs.Instance.{Instance}
 use Rattle.etf.specs.Schedule.{Placement}
 use Rattle.etf.specs.Checker.{Keeps, check, Because}
-use Rattle.etf.specs.Laws.Checker.{yes_keeps, keeps_yes, refused_because}
+use Rattle.etf.proofs.Laws.Checker.{yes_keeps, keeps_yes, refused_because}
 
 module _ (I : Instance) (ps : List Placement) where
   -- the answer is a yes exactly if the rules hold

@@ -12,9 +12,9 @@ use Rattle.etf.specs.Instance.{Instance, WellFormed, tasks, into}
 use Rattle.etf.specs.Schedule.{Placement, placed, placement_of, finish, arrival}
 use Rattle.etf.specs.Rule.{State, free, round, run}
 use Rattle.etf.specs.Cover.{busy}
-use Rattle.etf.specs.Laws.Placements.{placement_head, placement_tail, placed_more, placed_less, placement_of_lem}
-use Rattle.etf.specs.Laws.Placements.{arrival_ge, arrival_same, busy_in, busy_more}
-use Rattle.etf.specs.Laws.Turn.{taken_by, free_of, Ready, NewPlacement, Tick, Turn, rest, put, tick, stuck, turn}
+use Rattle.etf.proofs.Laws.Placements.{placement_head, placement_tail, placed_more, placed_less, placement_of_lem}
+use Rattle.etf.proofs.Laws.Placements.{arrival_ge, arrival_same, busy_in, busy_more}
+use Rattle.etf.proofs.Laws.Turn.{taken_by, free_of, Ready, NewPlacement, Tick, Turn, rest, put, tick, stuck, turn}
 
 -- each task stands in the list at most once
 abbrev pub Once : List Placement → Type 0

@@ -14,8 +14,8 @@ use Rattle.base.specs.Laws.Sums.{one_if_yes, one_if_no, one_if_le, one_if_most, 
 use Rattle.etf.specs.Instance.{Instance, WellFormed, tasks}
 use Rattle.etf.specs.Schedule.{Placement, placed, placement_of, finish}
 use Rattle.etf.specs.Rule.{State, begin, free, complete, round, run, planned}
-use Rattle.etf.specs.Laws.Placements.{placed_head, placed_more, placement_of_lem, into_of}
-use Rattle.etf.specs.Laws.Turn.{Ready, NewPlacement, Turn, rest, put, tick, stuck, turn}
+use Rattle.etf.proofs.Laws.Placements.{placed_head, placed_more, placement_of_lem, into_of}
+use Rattle.etf.proofs.Laws.Turn.{Ready, NewPlacement, Turn, rest, put, tick, stuck, turn}
 
 module _ (I : Instance) where
   -- the number of tasks that are not placed

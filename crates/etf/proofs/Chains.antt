@@ -3,7 +3,7 @@ use Rattle.std.specs.Prelude.{◌≡◌, List, [], ◌≤◌}
 use Rattle.job.specs.Job.{Edge}
 use Rattle.etf.specs.Instance.{Instance, WellFormed}
 use Rattle.etf.specs.Dearest.{Chain, price, dearest}
-use Rattle.etf.specs.Laws.Dearest.{chain_below, chain_at, dearest_none}
+use Rattle.etf.proofs.Laws.Dearest.{chain_below, chain_at, dearest_none}
 
 module _ (I : Instance) where
   -- no chain is dearer

@@ -9,10 +9,10 @@ use Rattle.etf.specs.Rule.{choice}
 use Rattle.etf.specs.OfJob.{instance, instance_by_weight}
 use Rattle.etf.specs.Weight.{weight, tasks_by_weight}
 use Rattle.etf.specs.Priority.{InOrder, position, HeavierFirst, FirstPair, ChoiceIs}
-use Rattle.etf.specs.Weights.{in_order}
-use Rattle.etf.specs.Laws.Order.{order_upto}
-use Rattle.etf.specs.Laws.Inserted.{heavier_trans, heavier_never}
-use Rattle.etf.specs.Laws.Choice
+use Rattle.etf.proofs.Weights.{in_order}
+use Rattle.etf.proofs.Laws.Order.{order_upto}
+use Rattle.etf.proofs.Laws.Inserted.{heavier_trans, heavier_never}
+use Rattle.etf.proofs.Laws.Choice
 
 -- any priority order: the smallest start, then the first in the order, then the lowest processor
 pub choice_by_place : (I : Instance) (cm : ℕ) (ps : List Placement)

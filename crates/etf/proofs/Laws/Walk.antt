@@ -15,10 +15,10 @@ use Rattle.etf.specs.Rule.{planned}
 use Rattle.etf.specs.Cover.{Walk, stops, goes}
 use Rattle.etf.specs.Dearest.{greatest_cost, dearest_to, dearest}
 use Rattle.etf.specs.Ideal.{Ideal}
-use Rattle.etf.specs.Laws.Placements.{into_of}
-use Rattle.etf.specs.Laws.Ticks.{idlers}
-use Rattle.etf.specs.Laws.Idle.{idle_of, idle_before, idlers_most, idlers_less, idle_until, none_idle}
-use Rattle.etf.specs.Laws.Planned.{home, on_processor}
+use Rattle.etf.proofs.Laws.Placements.{into_of}
+use Rattle.etf.proofs.Laws.Ticks.{idlers}
+use Rattle.etf.proofs.Laws.Idle.{idle_of, idle_before, idlers_most, idlers_less, idle_until, none_idle}
+use Rattle.etf.proofs.Laws.Planned.{home, on_processor}
 
 module _ (I : Instance) (W : WellFormed I) where
   -- the planner's schedule

@@ -14,7 +14,7 @@ use Rattle.etf.specs.Rule.{planned}
 use Rattle.etf.specs.Cover.{Back, idle, latest_idle_tick, MayGoBack, FinishesLast, back}
 use Rattle.base.specs.Laws.Tests.{eq→eqb}
 use Rattle.base.specs.Laws.Lists.{in_nothing, filter_in, filter_of, flat_map_in, flat_map_of, map_in, map_of, upto_in, upto_of}
-use Rattle.etf.specs.Laws.Back.{BackIs, nowhere, along, back_is}
+use Rattle.etf.proofs.Laws.Back.{BackIs, nowhere, along, back_is}
 use Rattle.etf.specs.Least.{serving, moves, last_tasks}
 
 module _ (I : Instance) (ps : List Placement) where

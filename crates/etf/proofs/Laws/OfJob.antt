@@ -11,7 +11,7 @@ use Rattle.etf.specs.Topology.{entry}
 use Rattle.etf.specs.Dearest.{greatest_cost}
 use Rattle.etf.specs.OfJob.{cost_in, costs_of, instance}
 use Rattle.etf.specs.Bounds.{most_cost, most_message_time}
-use Rattle.etf.specs.Laws.Costs.{cost_most, cost_self, square_most, square_cost}
+use Rattle.etf.proofs.Laws.Costs.{cost_most, cost_self, square_most, square_cost}
 
 -- what holds of each edge of a job by its place holds of each edge
 each_edge : (j : Job) (P : Edge → Type 0) → ((i : ℕ) → i < length j.edges → P (edge_at j i)) → (e : Edge) → e ∈ j.edges → P e

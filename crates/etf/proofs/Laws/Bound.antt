@@ -14,10 +14,10 @@ use Rattle.etf.specs.Rule.{planned}
 use Rattle.etf.specs.Cover.{Walk}
 use Rattle.etf.specs.Checker.{Apart}
 use Rattle.etf.specs.Ideal.{Ideal, makespan}
-use Rattle.etf.specs.Laws.Placements.{into_in, arrival_ge}
-use Rattle.etf.specs.Laws.Ticks.{idlers, ideal_work, our_work}
-use Rattle.etf.specs.Laws.Walk.{walk_bound}
-use Rattle.etf.specs.Laws.Planned.{apart_pairs, last_clock, sound_plan, home, on_processor, by_last, last_task_lem}
+use Rattle.etf.proofs.Laws.Placements.{into_in, arrival_ge}
+use Rattle.etf.proofs.Laws.Ticks.{idlers, ideal_work, our_work}
+use Rattle.etf.proofs.Laws.Walk.{walk_bound}
+use Rattle.etf.proofs.Laws.Planned.{apart_pairs, last_clock, sound_plan, home, on_processor, by_last, last_task_lem}
 
 -- work and idle ticks make up n E; f is when the ideal schedule finishes our last task
 add_up : (n q E F f C work idle : ℕ) → n ≡ suc q → n * E ≤ work + idle → work ≤ n * F → idle ≤ q * f + n * C → f ≤ F

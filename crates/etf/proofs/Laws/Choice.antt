@@ -17,7 +17,7 @@ use Rattle.etf.specs.Rule.{free, ready, pair, pairs, choice}
 use Rattle.base.specs.Laws.Tests.{either, fails, not_both, pick_yes, pick_no, eq→eqb, neqb→ne, is_true, is_false, le_or_lt}
 use Rattle.base.specs.Laws.Lists.{for_cons, for_join, in_nothing, in_left, in_right, filter_of, flat_map_of, map_of, Order, by_least}
 use Rattle.etf.specs.Priority.{InOrder, position, GoesFirst, FirstPair, ChoiceIs, nothing, chosen}
-use Rattle.etf.specs.Laws.Order.{order_filter, order_upto, by_position}
+use Rattle.etf.proofs.Laws.Order.{order_filter, order_upto, by_position}
 
 -- ---- the best of two lists joined
 

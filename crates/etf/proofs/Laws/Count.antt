@@ -11,9 +11,9 @@ use Rattle.base.specs.Laws.Lists.{for_cons, in_nothing}
 use Rattle.etf.specs.Instance.{Instance, WellFormed, tasks, TaskChain}
 use Rattle.etf.specs.Schedule.{Placement, placed, placement_of, finish}
 use Rattle.etf.specs.Rule.{State, begin, complete, round, run, rounds_in, rounds}
-use Rattle.etf.specs.Laws.Placements.{placement_head, placed_head, placed_more, placed_less, into_in}
-use Rattle.etf.specs.Laws.Turn.{Ready, NewPlacement, Tick, Turn, rest, put, tick, stuck, turn}
-use Rattle.etf.specs.Laws.Rounds.{complete_at, complete_of, none_stuck, enough_rounds}
+use Rattle.etf.proofs.Laws.Placements.{placement_head, placed_head, placed_more, placed_less, into_in}
+use Rattle.etf.proofs.Laws.Turn.{Ready, NewPlacement, Tick, Turn, rest, put, tick, stuck, turn}
+use Rattle.etf.proofs.Laws.Rounds.{complete_at, complete_of, none_stuck, enough_rounds}
 
 module _ (I : Instance) where
   -- ---- the rounds of k that are counted

@@ -14,10 +14,10 @@ use Rattle.etf.specs.Schedule.{Placement, placement_of, message_time_to, reach, 
 use Rattle.etf.specs.Rule.{planned}
 use Rattle.etf.specs.Cover.{Back, busy, idle, some_idle, latest_idle_tick, MayGoBack, Walk, stops, goes}
 use Rattle.etf.specs.Cover.{lowest_idle, later, latest_into, back, walk}
-use Rattle.etf.specs.Laws.Placements.{arrival_at}
-use Rattle.etf.specs.Laws.Idle.{idle_of, idle_in, LatestIdleTick, no_tick, at, latest_idle_tick_lem}
-use Rattle.etf.specs.Laws.Walk.{source}
-use Rattle.etf.specs.Laws.Planned.{sound_plan, home}
+use Rattle.etf.proofs.Laws.Placements.{arrival_at}
+use Rattle.etf.proofs.Laws.Idle.{idle_of, idle_in, LatestIdleTick, no_tick, at, latest_idle_tick_lem}
+use Rattle.etf.proofs.Laws.Walk.{source}
+use Rattle.etf.proofs.Laws.Planned.{sound_plan, home}
 
 module _ (I : Instance) (W : WellFormed I) where
   -- the planner's schedule

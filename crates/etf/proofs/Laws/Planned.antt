@@ -15,10 +15,10 @@ use Rattle.etf.specs.Schedule.{Placement, placed, placement_of, finish, last_fin
 use Rattle.etf.specs.Rule.{begin, run, planned}
 use Rattle.etf.specs.Cover.{FinishesLast, last_task}
 use Rattle.etf.specs.Checker.{Apart}
-use Rattle.etf.specs.Laws.Placements.{placed_head, placed_more, placed_less, placement_of_lem}
-use Rattle.etf.specs.Laws.Sound.{Once, NewerLater, Sound, sound_start, sound_run}
-use Rattle.etf.specs.Laws.Rounds.{all_placed}
-use Rattle.etf.specs.Laws.Ticks.{placement_once}
+use Rattle.etf.proofs.Laws.Placements.{placed_head, placed_more, placed_less, placement_of_lem}
+use Rattle.etf.proofs.Laws.Sound.{Once, NewerLater, Sound, sound_start, sound_run}
+use Rattle.etf.proofs.Laws.Rounds.{all_placed}
+use Rattle.etf.proofs.Laws.Ticks.{placement_once}
 
 -- a task that is not placed stands nowhere in the list
 times_none : (T : ℕ) (ps : List Placement) → Holds (not (placed ps T)) → length (filter (λ u. eqb u.task T) ps) ≡ 0

@@ -9,7 +9,7 @@ use Rattle.job.specs.Job.{Edge}
 use Rattle.etf.specs.Instance.{Instance, duration, into}
 use Rattle.etf.specs.Schedule.{Placement, placed, placement_of, finish, message_time_to, reach, arrival}
 use Rattle.etf.specs.Cover.{running, busy}
-use Rattle.etf.specs.Laws.Running.{running_in}
+use Rattle.etf.proofs.Laws.Running.{running_in}
 
 -- ---- the placement of a task
 

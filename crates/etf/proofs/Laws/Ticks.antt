@@ -12,9 +12,9 @@ use Rattle.etf.specs.Instance.{Instance, tasks, duration}
 use Rattle.etf.specs.Schedule.{Placement, placed, placement_of}
 use Rattle.etf.specs.Cover.{running, busy, idle}
 use Rattle.etf.specs.Ideal.{Ideal}
-use Rattle.etf.specs.Laws.Running.{running_of, sum_running}
-use Rattle.etf.specs.Laws.Placements.{placement_head, placement_tail, placed_in, busy_of}
-use Rattle.etf.specs.Laws.Sound.{Once, Sound}
+use Rattle.etf.proofs.Laws.Running.{running_of, sum_running}
+use Rattle.etf.proofs.Laws.Placements.{placement_head, placement_tail, placed_in, busy_of}
+use Rattle.etf.proofs.Laws.Sound.{Once, Sound}
 
 -- ---- a plan as a processor and a start for each task: d is how long a task takes
 

@@ -11,7 +11,7 @@ use Rattle.base.specs.Laws.Lists.{in_nothing, greatest_ge, greatest_at, upto_in}
 use Rattle.job.specs.Job.{Edge}
 use Rattle.etf.specs.Instance.{Instance, WellFormed, tasks, into}
 use Rattle.etf.specs.Dearest.{EndsAt, greatest_cost, Chain, price, dearest_to, dearest}
-use Rattle.etf.specs.Laws.Placements.{into_of, into_in}
+use Rattle.etf.proofs.Laws.Placements.{into_of, into_in}
 
 module _ (I : Instance) where
   price_most : WellFormed I → (es : List Edge) (k T : ℕ) → Chain I es → EndsAt T es → T < k → price I es ≤ dearest_to I k T

@@ -20,16 +20,17 @@ use Rattle.etf.specs.Checker.{Keeps, check}
 use Rattle.etf.specs.Topology.{hops, cost}
 use Rattle.etf.specs.OfJob.{cost_in, costs_of, instance, instance_by_weight, TieRule, result_of}
 use Rattle.etf.specs.Bounds.{most_cost, most_message_time, most_finish, most_end}
-use Rattle.etf.specs.Results.{WithinResults, end_after, end_is, dearest_is, planned_without, any_order_within}
-use Rattle.etf.specs.LeastWalks.{any_order_within as least-in-order}
-use Rattle.etf.specs.Weights.{has_all, has_only}
-use Rattle.etf.specs.Laws.Costs.{cost_most}
-use Rattle.etf.specs.Laws.Times.{finish_most, last_most, arrival_most}
-use Rattle.etf.specs.Laws.Checker.{keeps_yes, planned_keeps}
-use Rattle.etf.specs.Laws.Dearest.{dearest_free}
-use Rattle.etf.specs.Laws.Results.{time_most}
-use Rattle.etf.specs.Laws.Ordered.{ordered_well, dearest_ordered, keeps_ordered}
-use Rattle.etf.specs.Laws.OfJob.{of_job, few, short_tasks, entry_most, near_processors, laid_out, one_processor}
+use Rattle.etf.specs.Results.{WithinResults}
+use Rattle.etf.proofs.Results.{end_after, end_is, dearest_is, planned_without, any_order_within}
+use Rattle.etf.proofs.LeastWalks.{any_order_within as least-in-order}
+use Rattle.etf.proofs.Weights.{has_all, has_only}
+use Rattle.etf.proofs.Laws.Costs.{cost_most}
+use Rattle.etf.proofs.Laws.Times.{finish_most, last_most, arrival_most}
+use Rattle.etf.proofs.Laws.Checker.{keeps_yes, planned_keeps}
+use Rattle.etf.proofs.Laws.Dearest.{dearest_free}
+use Rattle.etf.proofs.Laws.Results.{time_most}
+use Rattle.etf.proofs.Laws.Ordered.{ordered_well, dearest_ordered, keeps_ordered}
+use Rattle.etf.proofs.Laws.OfJob.{of_job, few, short_tasks, entry_most, near_processors, laid_out, one_processor}
 
 -- 01: the dearest chain is 0 "with one board", of any job
 pub none_with_one_processor : (j : Job) → j.platform.processors ≡ 1 → dearest (instance j) ≡ 0

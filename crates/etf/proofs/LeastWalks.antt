@@ -10,12 +10,13 @@ use Rattle.etf.specs.Cover.{Back, latest_idle_tick, MayGoBack, Walk, FinishesLas
 use Rattle.etf.specs.Dearest.{dearest}
 use Rattle.etf.specs.Least.{moves, least_from, least}
 use Rattle.etf.specs.Ideal.{Ideal, makespan}
-use Rattle.etf.specs.Walks.{cover_walk}
-use Rattle.etf.specs.WorstCase.{walk_within}
-use Rattle.etf.specs.Results.{WithinResults, any_walk_within}
-use Rattle.etf.specs.Laws.Ordered.{ideal_ordered, makespan_ordered}
-use Rattle.etf.specs.Laws.Moves
-use Rattle.etf.specs.Laws.Least
+use Rattle.etf.proofs.Walks.{cover_walk}
+use Rattle.etf.proofs.WorstCase.{walk_within}
+use Rattle.etf.specs.Results.{WithinResults}
+use Rattle.etf.proofs.Results.{any_walk_within}
+use Rattle.etf.proofs.Laws.Ordered.{ideal_ordered, makespan_ordered}
+use Rattle.etf.proofs.Laws.Moves
+use Rattle.etf.proofs.Laws.Least
 
 module _ (I : Instance) (ps : List Placement) where
   -- the list of moves is the relation of `Cover.antt`: in any schedule, a walk may make those moves and no others
