@@ -1,4 +1,6 @@
 // Numbers of one width as numbers of another, numbers over a byte, the lesser of two, and a slice cleared.
+#![tactic(auto)]
+
 ghost use Rattle.std.specs.Prelude.{◌≡◌, [], ◌∷◌, ◌<◌, min, length};
 ghost use Rattle.base.specs.Number.{number};
 ghost use Rattle.base.specs.Slices.{filled};

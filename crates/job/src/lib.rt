@@ -1,4 +1,6 @@
 // The job file: its reader and its writer (document 01, "The job file").
+#![tactic(auto)]
+
 mod emit;
 mod parse;
 mod record;

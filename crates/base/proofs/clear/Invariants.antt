@@ -6,7 +6,8 @@ use Rattle.base.specs.Slices.{filled}
 use Rattle.base.proofs.clear.Given as goal
 
 abbrev pub invariant-loop-x : goal.invariant-loop-x
-invariant-loop-x l = (l.x ≤ l.end) × (l.end ≡ min l.places (length l.initial.slice)) × (length l.slice ≡ length l.initial.slice) × (l.slice ≡ filled (λ i. 0) l.x l.initial.slice)
+invariant-loop-x l = (l.x ≤ l.end) × (l.end ≡ min l.places (length l.initial.slice)) × (length l.slice ≡ length l.initial.slice)
+    × (l.slice ≡ filled (λ i. 0) l.x l.initial.slice)
 
 abbrev pub decreases-loop-x : goal.decreases-loop-x
 decreases-loop-x l = length l.initial.slice - l.x

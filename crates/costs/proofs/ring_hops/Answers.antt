@@ -29,7 +29,10 @@ module _ (n p q d : ℕ) where
 found : (c : Joined-p-q) →
     (c.if-p-q.d ≡ difference c.args.p c.args.q) × (c.if-p-q.d < c.args.n)
 found c =
-    (elim c.if-p-q.branch [ then-p-q w ↦ above _ _ _ _ w.if-p-q.true w.d-is (search rules) | else-p-q w ↦ below _ _ _ _ w.if-p-q.false w.d-is (search rules) ])
+    (elim c.if-p-q.branch [
+      then-p-q w ↦ above _ _ _ _ w.if-p-q.true w.d-is (search rules)
+      | else-p-q w ↦ below _ _ _ _ w.if-p-q.false w.d-is (search rules)
+    ])
 
 pub overflow_sub-n : goal.overflow_sub-n
 overflow_sub-n c =

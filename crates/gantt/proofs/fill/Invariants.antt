@@ -6,7 +6,8 @@ use lib.Seq.{sets}
 use Rattle.gantt.proofs.fill.Given as goal
 
 abbrev pub invariant-loop-i : goal.invariant-loop-i
-invariant-loop-i l = (l.i ≤ l.count) × (l.at + l.count ≤ length l.initial.out) × (length l.out ≡ length l.initial.out) × (l.out ≡ sets l.initial.out l.at (replicate l.i l.byte))
+invariant-loop-i l = (l.i ≤ l.count) × (l.at + l.count ≤ length l.initial.out) × (length l.out ≡ length l.initial.out)
+    × (l.out ≡ sets l.initial.out l.at (replicate l.i l.byte))
 
 abbrev pub decreases-loop-i : goal.decreases-loop-i
 decreases-loop-i l = l.count - l.i

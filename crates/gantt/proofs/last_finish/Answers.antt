@@ -21,7 +21,10 @@ loop-t-preserved c =
       search rules,
       search rules,
       search rules,
-      (elim c.if-last-finish.branch [ then-last-finish w ↦ one_place _ _ _ _ v.3 (omega (arith, w.if-last-finish.true, w.last-is)) | else-last-finish w ↦ one_place _ _ _ _ v.3 (omega (arith, w.if-last-finish.false, w.last-is)) ]),
+      (elim c.if-last-finish.branch [
+        then-last-finish w ↦ one_place _ _ _ _ v.3 (omega (arith, w.if-last-finish.true, w.last-is))
+        | else-last-finish w ↦ one_place _ _ _ _ v.3 (omega (arith, w.if-last-finish.false, w.last-is))
+      ]),
     )
 
 pub returns : goal.returns

@@ -68,7 +68,8 @@ overflow_cast-first c =
 
 pub overflow_add-row-in-loop-t : goal.overflow_add-row-in-loop-t
 overflow_add-row-in-loop-t c =
-    let q = known (goal.at.overflow_add-row-in-loop-t c).In-loop-t in record { fits = omega (arith, q.order, q.within, c.index-row.ensures.1) }
+    let q = known (goal.at.overflow_add-row-in-loop-t c).In-loop-t in
+    record { fits = omega (arith, q.order, q.within, c.index-row.ensures.1) }
 
 pub overflow_sub-last-in-loop-t : goal.overflow_sub-last-in-loop-t
 overflow_sub-last-in-loop-t c =

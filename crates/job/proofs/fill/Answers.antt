@@ -1,7 +1,5 @@
 -- `fill`: as `read`, over arrays that are lent; the loop over the links keeps `Going` of them.
-use mathlib.Core.Logic.{⊎_elim}
 use mathlib.Core.Path.{ap}
-use Prim.Native.Nat.{◌-◌}
 use native.Mathlib.Omega.{arith}
 use borrow.Author.Rules.{rules}
 use Rattle.base.specs.Laws.Tests.{when_true, when_false}
@@ -22,7 +20,8 @@ at-end c =
     let g = c.loop-link.invariant in
     let no-link = c.stands.ensures.no (when_false c.loop-link-test.false) in
     elim c.if-stands.branch [
-      then-stands+else-delivered-ne0 w ↦ rw (w.results-is, w.next-is) (taken g w.senders-sent.ensures w.results-delivered.ensures w.if-delivered-ne0.false no-link)
+      | then-stands+else-delivered-ne0 w ↦ rw (w.results-is, w.next-is)
+          (taken g w.senders-sent.ensures w.results-delivered.ensures w.if-delivered-ne0.false no-link)
       | else-stands w ↦ rw (w.results-is, w.next-is) (untaken g (c.stands-2.ensures.no (when_false w.if-stands.false)) no-link)
     ]
 

@@ -1,8 +1,6 @@
 -- `read`: the loop over the links keeps `Going`, the answer to the file with the job that the arrays hold so far; each return is that
 -- answer after a part of the file.
-use mathlib.Core.Logic.{⊎_elim}
 use mathlib.Core.Path.{ap, sym, ◌∙◌}
-use Prim.Native.Nat.{◌-◌}
 use native.Mathlib.Omega.{arith}
 use borrow.Author.Rules.{rules}
 use Rattle.base.specs.Laws.Tests.{when_true, when_false}
@@ -21,7 +19,8 @@ at-end c =
     let g = c.loop-link.invariant in
     let no-link = c.stands.ensures.no (when_false c.loop-link-test.false) in
     elim c.if-stands.branch [
-      then-stands+else-results-ne0 w ↦ rw (w.arrays-is, w.next-is) (taken g w.senders-sent.ensures w.results-results.ensures w.if-results-ne0.false no-link)
+      | then-stands+else-results-ne0 w ↦ rw (w.arrays-is, w.next-is)
+          (taken g w.senders-sent.ensures w.results-results.ensures w.if-results-ne0.false no-link)
       | else-stands w ↦ rw (w.arrays-is, w.next-is) (untaken g (c.stands-2.ensures.no (when_false w.if-stands.false)) no-link)
     ]
 

@@ -14,7 +14,8 @@ use Rattle.job.specs.declared.Written.TheVariants.{Length, Refused}
 use Rattle.job.specs.Job.{Job}
 use Rattle.job.specs.Read.{Answer, accepted, refused, read_job}
 use Rattle.job.specs.Record.{wire_pairs}
-use Rattle.job.specs.Write.{file_of, edge_held, wire_held, results_held, held_job, room_for, is_too_many, write_answer, write_out, WrittenAs}
+use Rattle.job.specs.Write.{file_of, edge_held, wire_held, results_held, held_job, room_for, is_too_many, write_answer, write_out}
+use Rattle.job.specs.Write.{WrittenAs}
 use Rattle.job.specs.Pass.{Met}
 use Rattle.job.specs.Laws.Judged.{passes, stops}
 use Rattle.job.proofs.write.Goals as goal
@@ -92,13 +93,12 @@ returns-then-number-gt0 c =
     (λ z. omega (arith, c.if-number-gt0.true))
 
 pub file_length-requires : goal.file_length-requires
-file_length-requires c =
-    (
-      c.job_trouble-number.ensures.holds (omega (arith, c.if-number-gt0.false)),
-      c.if-tasks-gt256.false,
-      c.if-edges-gt1024.false,
-      c.result_count-many.ensures.1,
-    )
+file_length-requires c = (
+  c.job_trouble-number.ensures.holds (omega (arith, c.if-number-gt0.false)),
+  c.if-tasks-gt256.false,
+  c.if-edges-gt1024.false,
+  c.result_count-many.ensures.1,
+)
 
 pub returns-then-out-file_length : goal.returns-then-out-file_length
 returns-then-out-file_length c =
@@ -108,7 +108,12 @@ returns-then-out-file_length c =
 
 pub put_job-length-requires : goal.put_job-length-requires
 put_job-length-requires c =
-    let many = c.result_count-many.ensures.0 in record { holds = (c.job_trouble-number.ensures.holds (omega (arith, c.if-number-gt0.false)), c.if-tasks-gt256.false, c.if-edges-gt1024.false, many); results_in_bounds = held_room _ _ _ _ _ _ c.file_length.ensures many c.if-out-file_length.false }
+    let many = c.result_count-many.ensures.0 in
+    record {
+      holds = (c.job_trouble-number.ensures.holds (omega (arith, c.if-number-gt0.false)), c.if-tasks-gt256.false,
+          c.if-edges-gt1024.false, many);
+      results_in_bounds = held_room _ _ _ _ _ _ c.file_length.ensures many c.if-out-file_length.false;
+    }
 
 pub returns : goal.returns
 returns c =

@@ -8,7 +8,11 @@ use Rattle.listing.proofs.write.Goals as goal
 
 pub returns-in_default : goal.returns-in_default
 returns-in_default c =
-    let read = c.read-r.ensures in record { out_after = refused_listed _ _ read c.in_default.is (omega (arith, c.number.ensures)) c.refusal.ensures.out_after; upper_bound = c.refusal.ensures.upper_bound }
+    let read = c.read-r.ensures in
+    record {
+      out_after = refused_listed _ _ read c.in_default.is (omega (arith, c.number.ensures)) c.refusal.ensures.out_after;
+      upper_bound = c.refusal.ensures.upper_bound;
+    }
 
 pub header-first-requires : goal.header-first-requires
 header-first-requires c =
@@ -21,7 +25,12 @@ header-first-requires c =
 pub lines-last-requires : goal.lines-last-requires
 lines-last-requires c =
     let read = c.read-r.ensures in
-    let few = few_tasks _ read c.in-Counts.is in record { tasks_bound = (few, omega (arith, few, c.header-first.ensures.upper_bound, c.header-first.auto.out)); tasks_in_bounds = arrays_reach _ read c.in-Counts.is _ _ _ refl refl refl c.plan-planned.ensures c.cover-covered.ensures; by_index = finish_fits _ read c.in-Counts.is _ _ _ refl refl refl c.plan-planned.ensures c.cover-covered.ensures }
+    let few = few_tasks _ read c.in-Counts.is in
+    record {
+      tasks_bound = (few, omega (arith, few, c.header-first.ensures.upper_bound, c.header-first.auto.out));
+      tasks_in_bounds = arrays_reach _ read c.in-Counts.is _ _ _ refl refl refl c.plan-planned.ensures c.cover-covered.ensures;
+      by_index = finish_fits _ read c.in-Counts.is _ _ _ refl refl refl c.plan-planned.ensures c.cover-covered.ensures;
+    }
 
 pub figures-requires : goal.figures-requires
 figures-requires c =
@@ -32,7 +41,9 @@ pub returns : goal.returns
 returns c =
     let read = c.read-r.ensures in
     let few = few_tasks _ read c.in-Counts.is in
-    let short : c.figures.result ≤ 12288 = omega (arith, few, c.header-first.ensures.upper_bound, c.lines-last.ensures.upper_bound, c.figures.ensures.upper_bound) in record { out_after = plan_listed _ read c.in-Counts.is _ _ _ refl refl refl c.plan-planned.ensures c.cover-covered.ensures _ _
+    let short : c.figures.result ≤ 12288 = omega
+        (arith, few, c.header-first.ensures.upper_bound, c.lines-last.ensures.upper_bound, c.figures.ensures.upper_bound) in
+    record { out_after = plan_listed _ read c.in-Counts.is _ _ _ refl refl refl c.plan-planned.ensures c.cover-covered.ensures _ _
           c.header-first.ensures.put c.lines-last.ensures.put c.figures.ensures.put
           c.end_in.ensures c.figures_in.ensures
           (omega (arith, short)); upper_bound = short }

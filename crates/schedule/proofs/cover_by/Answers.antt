@@ -41,7 +41,8 @@ measure-requires c =
     let ties = c.args.ties in
     let read = read_as c.read-r.ensures c.in-Counts.is in
     let number = plannable read c.index-n.ensures.0 c.square-costs.ensures in
-    let given = plannable_by number ties in record { plannable = number; by_index = (_, held_in number ties (laid_holds given _ _ _ c.in-Last.is c.lay_out-laid.ensures)) }
+    let given = plannable_by number ties in
+    record { plannable = number; by_index = (_, held_in number ties (laid_holds given _ _ _ c.in-Last.is c.lay_out-laid.ensures)) }
 
 pub returns : goal.returns
 unfolding cover_call_by

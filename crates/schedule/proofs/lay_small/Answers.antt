@@ -15,7 +15,11 @@ pub run-last-requires : goal.run-last-requires
 run-last-requires c =
     let fits = long_enough c.too_short.ensures c.if-too_short.false in
     let scratch = c.args.scratch.now in
-    let wide : 512 ≤ length scratch = omega (arith, fits.2) in record { plannable = c.requires; small_room = small_room scratch (fits.0, fits.1, wide) (filled_within (λ x. 0) 512 scratch wide c.clear.ensures) }
+    let wide : 512 ≤ length scratch = omega (arith, fits.2) in
+    record {
+      plannable = c.requires;
+      small_room = small_room scratch (fits.0, fits.1, wide) (filled_within (λ x. 0) 512 scratch wide c.clear.ensures);
+    }
 
 pub returns : goal.returns
 returns c =

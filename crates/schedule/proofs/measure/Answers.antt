@@ -9,7 +9,11 @@ use Rattle.schedule.proofs.measure.Goals as goal
 pub short_ticks-requires : goal.short_ticks-requires
 short_ticks-requires c =
     let given = c.requires.by_index.1 in
-    let F = given.plannable in record { scheduled = (scheduled F given.plan, (edges_there F).1, F.few_edges); latest_len = (refl {a = 256}, refl {a = 256}, zeros_at 256) }
+    let F = given.plannable in
+    record {
+      scheduled = (scheduled F given.plan, (edges_there F).1, F.few_edges);
+      latest_len = (refl {a = 256}, refl {a = 256}, zeros_at 256);
+    }
 
 pub dearest-dearest-requires : goal.dearest-dearest-requires
 dearest-dearest-requires c =

@@ -104,7 +104,10 @@ wires-fine w = sym w.wires_trouble-trouble.ensures ∙ w.if-trouble-ne0-2.false
 
 pub returns-then-trouble-ne0 : goal.returns-then-trouble-ne0
 returns-then-trouble-ne0 c =
-    record { met = bad_rack _ _ _ _ _ c.platform_trouble-trouble.ensures c.if-trouble-ne0.true; holds = λ z. absurd (c.if-trouble-ne0.true z) }
+    record {
+      met = bad_rack _ _ _ _ _ c.platform_trouble-trouble.ensures c.if-trouble-ne0.true;
+      holds = λ z. absurd (c.if-trouble-ne0.true z);
+    }
 
 pub wires_trouble-trouble-requires : goal.wires_trouble-trouble-requires
 wires_trouble-trouble-requires c =
@@ -112,22 +115,38 @@ wires_trouble-trouble-requires c =
 
 pub returns-then-trouble-ne0-2 : goal.returns-then-trouble-ne0-2
 returns-then-trouble-ne0-2 c =
-    record { met = bad_wire _ _ _ _ (rack-fine (goal.at.returns-then-trouble-ne0-2 c).Else-trouble-ne0) _ c.wires_trouble-trouble.ensures c.if-trouble-ne0-2.true; holds = λ z. absurd (c.if-trouble-ne0-2.true z) }
+    record {
+      met = bad_wire _ _ _ _ (rack-fine (goal.at.returns-then-trouble-ne0-2 c).Else-trouble-ne0) _ c.wires_trouble-trouble.ensures
+          c.if-trouble-ne0-2.true;
+      holds = λ z. absurd (c.if-trouble-ne0-2.true z);
+    }
 
 pub returns-then-tasks-eq0 : goal.returns-then-tasks-eq0
 returns-then-tasks-eq0 c =
-    record { met = no_step _ _ _ _ (rack-fine (goal.at.returns-then-tasks-eq0 c).Else-trouble-ne0) (wires-fine (goal.at.returns-then-tasks-eq0 c).Else-trouble-ne0-2) c.if-tasks-eq0.true; holds = λ z. absurd (omega arith) }
+    record {
+      met = no_step _ _ _ _ (rack-fine (goal.at.returns-then-tasks-eq0 c).Else-trouble-ne0)
+          (wires-fine (goal.at.returns-then-tasks-eq0 c).Else-trouble-ne0-2) c.if-tasks-eq0.true;
+      holds = λ z. absurd (omega arith);
+    }
 
 pub returns-then-trouble-ne0-3 : goal.returns-then-trouble-ne0-3
 returns-then-trouble-ne0-3 c =
-    record { met = bad_step _ _ _ _ (rack-fine (goal.at.returns-then-trouble-ne0-3 c).Else-trouble-ne0) (wires-fine (goal.at.returns-then-trouble-ne0-3 c).Else-trouble-ne0-2) c.requires.0 _ c.steps_trouble-trouble.ensures
-          c.if-trouble-ne0-3.true; holds = λ z. absurd (c.if-trouble-ne0-3.true z) }
+    record {
+      met = bad_step _ _ _ _ (rack-fine (goal.at.returns-then-trouble-ne0-3 c).Else-trouble-ne0)
+          (wires-fine (goal.at.returns-then-trouble-ne0-3 c).Else-trouble-ne0-2) c.requires.0 _ c.steps_trouble-trouble.ensures
+          c.if-trouble-ne0-3.true;
+      holds = λ z. absurd (c.if-trouble-ne0-3.true z);
+    }
 
 pub returns-then-trouble-ne0-4 : goal.returns-then-trouble-ne0-4
 returns-then-trouble-ne0-4 c =
-    record { met = bad_link _ _ _ _ (rack-fine (goal.at.returns-then-trouble-ne0-4 c).Else-trouble-ne0) (wires-fine (goal.at.returns-then-trouble-ne0-4 c).Else-trouble-ne0-2) c.requires.0 _ c.steps_trouble-trouble.ensures
+    record {
+      met = bad_link _ _ _ _ (rack-fine (goal.at.returns-then-trouble-ne0-4 c).Else-trouble-ne0)
+          (wires-fine (goal.at.returns-then-trouble-ne0-4 c).Else-trouble-ne0-2) c.requires.0 _ c.steps_trouble-trouble.ensures
           c.if-trouble-ne0-3.false c.if-tasks-eq0.false c.requires.1 _ c.links_trouble-trouble.ensures
-          c.if-trouble-ne0-4.true; holds = λ z. absurd (c.if-trouble-ne0-4.true z) }
+          c.if-trouble-ne0-4.true;
+      holds = λ z. absurd (c.if-trouble-ne0-4.true z);
+    }
 
 pub results_trouble-requires : goal.results_trouble-requires
 results_trouble-requires c =
@@ -136,6 +155,10 @@ results_trouble-requires c =
 
 pub returns : goal.returns
 returns c =
-    record { met = last _ _ _ _ (rack-fine (goal.at.returns c).Else-trouble-ne0) (wires-fine (goal.at.returns c).Else-trouble-ne0-2) c.requires.0 _ c.steps_trouble-trouble.ensures
+    record {
+      met = last _ _ _ _ (rack-fine (goal.at.returns c).Else-trouble-ne0) (wires-fine (goal.at.returns c).Else-trouble-ne0-2)
+          c.requires.0 _ c.steps_trouble-trouble.ensures
           c.if-trouble-ne0-3.false c.if-tasks-eq0.false c.requires.1 _ c.links_trouble-trouble.ensures
-          c.if-trouble-ne0-4.false _ c.results_trouble.ensures; holds = λ z. in_ranges _ (rack-fine (goal.at.returns c).Else-trouble-ne0) }
+          c.if-trouble-ne0-4.false _ c.results_trouble.ensures;
+      holds = λ z. in_ranges _ (rack-fine (goal.at.returns c).Else-trouble-ne0);
+    }

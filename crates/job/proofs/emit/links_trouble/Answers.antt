@@ -23,20 +23,19 @@ returns-then-trouble-ne0 c =
 
 pub loop-i-preserved : goal.loop-i-preserved
 unfolding left
-loop-i-preserved c =
-    (
-      search rules,
-      search rules,
-      search rules,
-      search rules,
-      sym (on _ _ _ _ _ _ _ (search rules) _ c.link_trouble-trouble.ensures _ c.key-least.ensures.0 c.if-trouble-ne0.false)
-          ∙ c.loop-i.invariant.4,
-    )
+loop-i-preserved c = (
+  search rules,
+  search rules,
+  search rules,
+  search rules,
+  sym (on _ _ _ _ _ _ _ (search rules) _ c.link_trouble-trouble.ensures _ c.key-least.ensures.0 c.if-trouble-ne0.false)
+      ∙ c.loop-i.invariant.4,
+)
 
 pub returns : goal.returns
 returns c =
     record {
-  first = sym (none_left _ _ _ _ _ _ _ c.loop-i-test.false) ∙ c.loop-i.invariant.4;
-  to_fits = c.shared_slice_known-2-1.given;
-  count_fits = c.shared_slice_known-3-1.given;
-}
+      first = sym (none_left _ _ _ _ _ _ _ c.loop-i-test.false) ∙ c.loop-i.invariant.4;
+      to_fits = c.shared_slice_known-2-1.given;
+      count_fits = c.shared_slice_known-3-1.given;
+    }

@@ -1,6 +1,6 @@
 -- `emit::put_links`: the links put so far are the first ones, and there is room for the others.
 use mathlib.Core.List.{List}
-use Prim.Native.Nat.{ℕ, ◌+◌, ◌-◌, ◌≤◌, ◌<◌}
+use Prim.Native.Nat.{ℕ, ◌+◌, ◌≤◌, ◌<◌}
 use native.Mathlib.Omega.{arith}
 use borrow.Author.Rules.{rules}
 use lib.ListN.{length}
@@ -10,7 +10,8 @@ use Rattle.job.specs.Laws.Sizes.{link_size}
 use Rattle.job.specs.Laws.Putting.{Putting, putting_none, putting_room, putting_more, putting_done}
 use Rattle.job.proofs.emit.put_links.Goals as goal
 
-room : {f : ℕ → Edge} {m i : ℕ} {out₀ out : List ℕ} {start at : ℕ} → Putting link_bytes f m i out₀ out start at → i < m → at + 5 ≤ length out
+room : {f : ℕ → Edge} {m i : ℕ} {out₀ out : List ℕ} {start at : ℕ} → Putting link_bytes f m i out₀ out start at → i < m → at + 5
+    ≤ length out
 room {f} {m} {i} p h = omega (arith, putting_room link_bytes f m p h, link_size (f i))
 
 pub loop-i-init : goal.loop-i-init

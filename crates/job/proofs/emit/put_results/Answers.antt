@@ -1,7 +1,7 @@
 -- `emit::put_results`: the results put so far are those of the first tasks, and there is room for all.
 use mathlib.Core.Path.{◌≡◌, refl, ap, ◌∙◌}
 use mathlib.Core.List.{List, ◌++◌, flat_map, append-nil}
-use Prim.Native.Nat.{ℕ, ◌+◌, ◌-◌, ◌≤◌, ◌<◌}
+use Prim.Native.Nat.{ℕ, ◌+◌, ◌≤◌, ◌<◌}
 use native.Mathlib.Omega.{arith}
 use lib.ListN.{length, get_or, length-append}
 use Rattle.base.specs.Slices.{Put}
@@ -97,7 +97,11 @@ pub loop-t-preserved : goal.loop-t-preserved
 loop-t-preserved c =
     let g = c.loop-t.invariant in
     let h = c.loop-t-test.true in
-    (elim c.if-count-ne0.branch [ then-count-ne0 w ↦ turn _ _ _ _ _ _ _ g h w.if-count-ne0.true _ _ _ _ w.out-is w.at-is w.put_result-at.auto.out w.put_result-at.ensures | else-count-ne0 w ↦ past _ _ _ _ _ _ _ g h _ _ w.out-is w.at-is w.if-count-ne0.false ])
+    (elim c.if-count-ne0.branch [
+      then-count-ne0 w ↦
+          turn _ _ _ _ _ _ _ g h w.if-count-ne0.true _ _ _ _ w.out-is w.at-is w.put_result-at.auto.out w.put_result-at.ensures
+      | else-count-ne0 w ↦ past _ _ _ _ _ _ _ g h _ _ w.out-is w.at-is w.if-count-ne0.false
+    ])
 
 pub returns : goal.returns
 returns c =

@@ -1,7 +1,7 @@
 -- `emit::result_count`: the results among the tasks so far.
 use mathlib.Core.Path.{◌≡◌, ◌∙◌}
 use mathlib.Core.List.{List}
-use Prim.Native.Nat.{ℕ, ◌+◌, ◌-◌, ◌≤◌}
+use Prim.Native.Nat.{ℕ, ◌+◌, ◌≤◌}
 use native.Mathlib.Omega.{arith}
 use borrow.Author.Rules.{rules}
 use lib.ListN.{length, get_or, length-append}
@@ -37,7 +37,10 @@ loop-t-preserved c =
     let g = c.loop-t.invariant in (
       search rules,
       search rules,
-      (elim c.if-results-t-ne0.branch [ then-results-t-ne0 w ↦ w.count-is ∙ one_more _ _ _ g.2 w.if-results-t-ne0.true | else-results-t-ne0 w ↦ w.count-is ∙ no_more _ _ _ g.2 w.if-results-t-ne0.false ]),
+      (elim c.if-results-t-ne0.branch [
+        then-results-t-ne0 w ↦ w.count-is ∙ one_more _ _ _ g.2 w.if-results-t-ne0.true
+        | else-results-t-ne0 w ↦ w.count-is ∙ no_more _ _ _ g.2 w.if-results-t-ne0.false
+      ]),
     )
 
 pub returns : goal.returns

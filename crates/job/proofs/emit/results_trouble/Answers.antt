@@ -1,10 +1,7 @@
 -- `emit::results_trouble`: the results of the tasks still to come have the trouble of all, as long as none was met.
-use mathlib.Core.Logic.{⊎_elim}
-use mathlib.Core.Bool.{false}
 use mathlib.Core.Path.{sym, ◌∙◌}
-use Prim.Native.Nat.{◌-◌}
 use borrow.Author.Rules.{rules}
-use Rattle.job.proofs.emit.results_trouble.Invariants.{left, no_result, begin, none_left, past, met, on}
+use Rattle.job.proofs.emit.results_trouble.Invariants.{no_result, begin, none_left, past, met, on}
 use Rattle.job.proofs.emit.results_trouble.Goals as goal
 use Rattle.job.proofs.emit.results_trouble.Goals.{then-count-ne0+else-trouble-ne0, else-count-ne0}
 
@@ -31,7 +28,7 @@ loop-t-preserved c =
     let h = c.loop-t-test.true in (
       search rules,
       sym (elim c.if-count-ne0.branch [
-        then-count-ne0+else-trouble-ne0 w ↦ on _ _ _ _ _ h w.if-count-ne0.true c.requires.0 _ c.senders-sent.ensures _
+        | then-count-ne0+else-trouble-ne0 w ↦ on _ _ _ _ _ h w.if-count-ne0.true c.requires.0 _ c.senders-sent.ensures _
             w.delivery_trouble-trouble.ensures w.if-trouble-ne0.false
         | else-count-ne0 w ↦ past _ _ _ _ _ h w.if-count-ne0.false
       ]) ∙ c.loop-t.invariant.1,
@@ -40,6 +37,6 @@ loop-t-preserved c =
 pub returns : goal.returns
 returns c =
     record {
-  first = sym (none_left _ _ _ _ _ c.loop-t-test.false) ∙ c.loop-t.invariant.1;
-  fits = c.shared_slice_known-1.given;
-}
+      first = sym (none_left _ _ _ _ _ c.loop-t-test.false) ∙ c.loop-t.invariant.1;
+      fits = c.shared_slice_known-1.given;
+    }

@@ -36,11 +36,12 @@ returns-then-trouble-ne0 c =
 
 pub loop-i-preserved : goal.loop-i-preserved
 loop-i-preserved c =
-    (search rules, search rules, sym (on _ _ _ (search rules) _ c.step_trouble-trouble.ensures c.if-trouble-ne0.false) ∙ c.loop-i.invariant.2)
+    (search rules, search rules, sym (on _ _ _ (search rules) _ c.step_trouble-trouble.ensures c.if-trouble-ne0.false)
+        ∙ c.loop-i.invariant.2)
 
 pub returns : goal.returns
 returns c =
     record {
-  first = sym (none_left _ _ _ c.loop-i-test.false) ∙ c.loop-i.invariant.2;
-  fits = c.shared_slice_known-1.given;
-}
+      first = sym (none_left _ _ _ c.loop-i-test.false) ∙ c.loop-i.invariant.2;
+      fits = c.shared_slice_known-1.given;
+    }

@@ -2,12 +2,12 @@
 use mathlib.Core.Bool.{Bool}
 use mathlib.Core.Path.{◌≡◌, refl, ap, ◌∙◌}
 use mathlib.Core.List.{List, []}
-use Prim.Native.Nat.{ℕ, ◌-◌, ◌≤◌}
+use Prim.Native.Nat.{ℕ, ◌≤◌}
 use native.Mathlib.Omega.{arith}
 use lib.ListN.{length, get_or}
 use Rattle.base.specs.Laws.Tests.{when_true, when_false}
 use Rattle.job.specs.Job.{Job, job_with_results}
-use Rattle.job.specs.Record.{kind_of, stands}
+use Rattle.job.specs.Record.{kind_of}
 use Rattle.job.specs.Read.{result_array}
 use Rattle.job.specs.Write.{results_held}
 use Rattle.job.specs.Laws.Due.{nothing_delivered}

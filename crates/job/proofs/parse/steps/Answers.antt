@@ -3,7 +3,7 @@ use mathlib.Core.Logic.{⊎_elim}
 use mathlib.Core.Path.{◌≡◌, refl, ap, sym, ◌∙◌}
 use mathlib.Core.List.{List, [], ◌∷◌}
 use mathlib.Core.Option.{some}
-use Prim.Native.Nat.{ℕ, ◌+◌, ◌-◌, ◌≤◌, ◌<◌}
+use Prim.Native.Nat.{ℕ, ◌+◌, ◌≤◌, ◌<◌}
 use native.Mathlib.Omega.{arith}
 use borrow.Author.Rules.{rules}
 use lib.ListN.{length, get_or, drop, set, replicate}
@@ -12,7 +12,7 @@ use Rattle.base.specs.Laws.Tests.{when_true, when_false}
 use Rattle.base.specs.Laws.Values.{length-values}
 use Rattle.job.specs.declared.parse.FoundStep.{FoundStep}
 use Rattle.job.specs.Job.{Job, with_tasks}
-use Rattle.job.specs.Record.{step, kind_of, stands, too_early_number, pairs_due}
+use Rattle.job.specs.Record.{step, kind_of, too_early_number, pairs_due}
 use Rattle.job.specs.Read.{refused, records}
 use Rattle.job.specs.Pass.{misplaced_number, StepDue, StepsDue, StepPassed, StepsPassed}
 use Rattle.job.specs.Laws.Judged.{at-end, passes, stops}

@@ -2,19 +2,19 @@
 -- that are due are all pairs, so that where none is due the array holds the wires that were taken.
 use mathlib.Core.Path.{◌≡◌, refl, ap, sym, ◌∙◌}
 use mathlib.Core.List.{List, []}
-use Prim.Native.Nat.{ℕ, ◌-◌, ◌≤◌}
+use Prim.Native.Nat.{ℕ, ◌≤◌}
 use native.Mathlib.Omega.{arith}
 use lib.ListN.{length, drop}
 use Rattle.base.specs.Laws.Tests.{when_true, when_false}
 use Rattle.job.specs.declared.record.Pair.{Pair}
 use Rattle.job.specs.Job.{blank, with_rack}
-use Rattle.job.specs.Record.{kind_of, stands}
+use Rattle.job.specs.Record.{kind_of}
 use Rattle.job.specs.Read.{records, wire_array}
 use Rattle.job.specs.Pass.{due_from, PairAfter}
 use Rattle.job.specs.Laws.Tests.{platform_facts}
 use Rattle.job.specs.Laws.Due.{no_wires}
 use Rattle.job.specs.Laws.Wires.{first_due, past_itself}
-use Rattle.job.proofs.parse.wires.Invariants.{joined, Going, none, left, bad, early, done, on}
+use Rattle.job.proofs.parse.wires.Invariants.{joined, Going, none, bad, early, done, on}
 use Rattle.job.proofs.parse.wires.Goals as goal
 
 begun : (file : List ℕ) (start n : ℕ) (costs : List ℕ) (x due : Pair) → x.from ≡ 0 → x.to ≡ 0 → PairAfter n x due →

@@ -10,7 +10,7 @@ use Rattle.job.specs.declared.Platform.{Platform}
 use Rattle.job.specs.declared.record.Pair.{Pair}
 use Rattle.job.specs.declared.parse.FoundWire.{FoundWire}
 use Rattle.job.specs.Job.{Job, Wire, ends, blank, with_rack, with_wires}
-use Rattle.job.specs.Record.{wire, no_rack, stands, platform_in_range, pairs, wire_pairs, pairs_due, too_early_number}
+use Rattle.job.specs.Record.{no_rack, stands, platform_in_range, pairs, wire_pairs, pairs_due, too_early_number}
 use Rattle.job.specs.Read.{records, wire_array}
 use Rattle.job.specs.Write.{wire_held}
 use Rattle.job.specs.Pass.{wire_of, due_from, OnPair, PairAfter, WireDue, WirePassed, StepDue, StepsDue, EarlyPassed}
@@ -105,7 +105,8 @@ module _ (file : List ℕ) (start n : ℕ) (costs : List ℕ) (due : Pair) (at :
     }
 
     -- no wire is there, and none is due
-    pub done : n ≤ due.from → (at < length file → get_or file at 0 ≡ 5 → ⊥) → WiresPassed file start p costs (record { trouble = 0; next = at })
+    pub done : n ≤ due.from → (at < length file → get_or file at 0 ≡ 5 → ⊥) → WiresPassed file start p costs
+        (record { trouble = 0; next = at })
     done h no-wire =
         let no-pair : left ≡ [] = none_due n due.from due.to h in
         let all : map ends g.ws ≡ pairs n = sym (append-nil _) ∙ (rw no-pair at g.pairs_are) in

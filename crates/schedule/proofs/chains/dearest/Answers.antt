@@ -6,7 +6,13 @@ use Rattle.schedule.proofs.chains.dearest.Goals as goal
 
 pub sum-requires : goal.sum-requires
 sum-requires c =
-    let F = c.requires.plannable in record { edges_in_bounds = edges_there F; by_index = climb F; by_index_2 = (λ k h. (F.forward k h, omega (arith, F.within k h, F.few_tasks))); by_index_3 = messages_fit F c.requires.cost_value }
+    let F = c.requires.plannable in
+    record {
+      edges_in_bounds = edges_there F;
+      by_index = climb F;
+      by_index_2 = (λ k h. (F.forward k h, omega (arith, F.within k h, F.few_tasks)));
+      by_index_3 = messages_fit F c.requires.cost_value;
+    }
 
 pub returns : goal.returns
 returns c =

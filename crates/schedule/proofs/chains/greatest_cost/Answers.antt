@@ -28,7 +28,10 @@ loop-p-preserved c =
     let v = c.loop-p.invariant in (
       search rules,
       search rules,
-      (elim c.if-most-cost.branch [ then-most-cost w ↦ one_place _ _ _ _ v.2 (omega (arith, w.if-most-cost.true, w.most-is, cost)) | else-most-cost w ↦ one_place _ _ _ _ v.2 (omega (arith, w.if-most-cost.false, w.most-is, cost)) ]),
+      (elim c.if-most-cost.branch [
+        then-most-cost w ↦ one_place _ _ _ _ v.2 (omega (arith, w.if-most-cost.true, w.most-is, cost))
+        | else-most-cost w ↦ one_place _ _ _ _ v.2 (omega (arith, w.if-most-cost.false, w.most-is, cost))
+      ]),
     )
 
 pub returns : goal.returns

@@ -16,7 +16,10 @@ loop-q-preserved c =
     let v = c.loop-q.invariant in (
       search rules,
       search rules,
-      (elim c.if-most-cost.branch [ then-most-cost w ↦ one_place _ _ _ _ v.2 (omega (arith, w.if-most-cost.true, w.most-is)) | else-most-cost w ↦ one_place _ _ _ _ v.2 (omega (arith, w.if-most-cost.false, w.most-is)) ]),
+      (elim c.if-most-cost.branch [
+        then-most-cost w ↦ one_place _ _ _ _ v.2 (omega (arith, w.if-most-cost.true, w.most-is))
+        | else-most-cost w ↦ one_place _ _ _ _ v.2 (omega (arith, w.if-most-cost.false, w.most-is))
+      ]),
     )
 
 pub returns : goal.returns

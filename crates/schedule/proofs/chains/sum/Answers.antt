@@ -28,13 +28,15 @@ loop-k-init c =
 pub overflow_mul-sum : goal.overflow_mul-sum
 overflow_mul-sum c =
     let s = c.index-s.ensures.0 in
-    let fits = messages_fit _ _ _ _ _ (asked (goal.at.overflow_mul-sum c).After-wide16) c.loop-k.invariant.1 (search rules) s c.wide16.ensures in
+    let fits = messages_fit _ _ _ _ _ (asked (goal.at.overflow_mul-sum c).After-wide16) c.loop-k.invariant.1 (search rules) s
+        c.wide16.ensures in
     record { fits = omega (arith, fits) }
 
 pub overflow_add-sum : goal.overflow_add-sum
 overflow_add-sum c =
     let s = c.index-s.ensures.0 in
-    let fits = sum_fits _ _ _ _ _ (asked (goal.at.overflow_add-sum c).After-wide16) c.loop-k.invariant.1 (search rules) s c.wide16.ensures in
+    let fits = sum_fits _ _ _ _ _ (asked (goal.at.overflow_add-sum c).After-wide16) c.loop-k.invariant.1 (search rules) s
+        c.wide16.ensures in
     record { fits = omega (arith, fits) }
 
 pub loop-k-preserved : goal.loop-k-preserved
@@ -43,8 +45,14 @@ loop-k-preserved c =
     let t = c.index-t.ensures in
     (
       search rules,
-      more _ _ _ _ _ (asked (goal.at.loop-k-preserved c).After-wide16) S (search rules) c.index-s.ensures.0 c.wide16.ensures refl t.0 (elim c.if-sums-t.branch [ then-sums-t w ↦ lifted _ _ _ _ (omega (arith, w.if-sums-t.true)) w.sums-is (omega (arith, t.1, S.size)) | else-sums-t w ↦ unlifted _ _ _ _ (omega (arith, w.if-sums-t.false)) w.sums-is ])
-          ((elim c.if-most-sum.branch [ then-most-sum w ↦ omega (arith, w.if-most-sum.true, w.most-is) | else-most-sum w ↦ omega (arith, w.if-most-sum.false, w.most-is) ])),
+      more _ _ _ _ _ (asked (goal.at.loop-k-preserved c).After-wide16) S (search rules) c.index-s.ensures.0 c.wide16.ensures refl t.0 (elim c.if-sums-t.branch [
+        then-sums-t w ↦ lifted _ _ _ _ (omega (arith, w.if-sums-t.true)) w.sums-is (omega (arith, t.1, S.size))
+        | else-sums-t w ↦ unlifted _ _ _ _ (omega (arith, w.if-sums-t.false)) w.sums-is
+      ])
+          ((elim c.if-most-sum.branch [
+            then-most-sum w ↦ omega (arith, w.if-most-sum.true, w.most-is)
+            | else-most-sum w ↦ omega (arith, w.if-most-sum.false, w.most-is)
+          ])),
     )
 
 pub returns : goal.returns

@@ -54,7 +54,8 @@ bounds-processors-t c =
 
 pub of_edge-sent-requires : goal.of_edge-sent-requires
 of_edge-sent-requires c =
-    let sent = to_it (joins (goal.at.of_edge-sent-requires c).In-loop-k) c.index-t.ensures.0 c.index-q.ensures.0 in record { k_in_bounds = (search rules, search rules, sent.0); sender = sent.1 }
+    let sent = to_it (joins (goal.at.of_edge-sent-requires c).In-loop-k) c.index-t.ensures.0 c.index-q.ensures.0 in
+    record { k_in_bounds = (search rules, search rules, sent.0); sender = sent.1 }
 
 pub bounds-starts-t : goal.bounds-starts-t
 bounds-starts-t c =

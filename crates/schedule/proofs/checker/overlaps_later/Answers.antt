@@ -13,7 +13,9 @@ use Rattle.schedule.specs.Pass.{some_in_places, overlap_at, overlaps_later}
 use Rattle.schedule.specs.Laws.Rows.SomeIn.{none_left, met, passed}
 use Rattle.schedule.proofs.checker.overlaps_later.Invariants.{Going}
 use Rattle.schedule.proofs.checker.overlaps_later.Goals as goal
-use Rattle.schedule.proofs.checker.overlaps_later.Goals.{else-processors-u, then-processors-u+else-other-finish, then-processors-u+then-other-finish+else-start-end, then-processors-u+then-other-finish+then-start-end}
+use Rattle.schedule.proofs.checker.overlaps_later.Goals.{else-processors-u, then-processors-u+else-other-finish}
+use Rattle.schedule.proofs.checker.overlaps_later.Goals.{then-processors-u+then-other-finish+else-start-end}
+use Rattle.schedule.proofs.checker.overlaps_later.Goals.{then-processors-u+then-other-finish+then-start-end}
 
 -- the test of tasks t and u, by the three tests of the code
 module _ (durations starts processors : List ℕ) (t u : ℕ) where
@@ -30,7 +32,8 @@ module _ (durations starts processors : List ℕ) (t u : ℕ) where
   unfolding overlap_at
   finishes_before a b d = rw (eq-eqb _ _ a, lt-ltb _ _ b, le-ltb _ _ d)
 
-  starts_after : get_or processors u 0 ≡ get_or processors t 0 → finish t ≤ get_or starts u 0 → overlap_at durations starts processors t u ≡ false
+  starts_after : get_or processors u 0 ≡ get_or processors t 0 → finish t ≤ get_or starts u 0 → overlap_at durations starts processors
+      t u ≡ false
   unfolding overlap_at
   starts_after a b = rw (eq-eqb _ _ a, le-ltb _ _ b)
 
@@ -105,7 +108,16 @@ pub loop-u-preserved : goal.loop-u-preserved
 loop-u-preserved c =
     let going = c.loop-u.invariant in
     let more = c.loop-u-test.true in
-    (elim c.if-processors-u.branch [ then-processors-u+then-other-finish+then-start-end w ↦ one_more going w.found-is more (overlaps _ _ _ _ _ w.if-processors-u.true (omega (arith, w.if-other-finish.true)) w.if-start-end.true) | then-processors-u+then-other-finish+else-start-end w ↦ no_more going w.found-is more (finishes_before _ _ _ _ _ w.if-processors-u.true w.if-other-finish.true w.if-start-end.false) | then-processors-u+else-other-finish w ↦ no_more going w.found-is more (starts_after _ _ _ _ _ w.if-processors-u.true (omega (arith, w.if-other-finish.false))) | else-processors-u w ↦ no_more going w.found-is more (elsewhere _ _ _ _ _ w.if-processors-u.false) ])
+    (elim c.if-processors-u.branch [
+      then-processors-u+then-other-finish+then-start-end w ↦
+          one_more going w.found-is more
+              (overlaps _ _ _ _ _ w.if-processors-u.true (omega (arith, w.if-other-finish.true)) w.if-start-end.true)
+      | then-processors-u+then-other-finish+else-start-end w ↦
+          no_more going w.found-is more (finishes_before _ _ _ _ _ w.if-processors-u.true w.if-other-finish.true w.if-start-end.false)
+      | then-processors-u+else-other-finish w ↦
+          no_more going w.found-is more (starts_after _ _ _ _ _ w.if-processors-u.true (omega (arith, w.if-other-finish.false)))
+      | else-processors-u w ↦ no_more going w.found-is more (elsewhere _ _ _ _ _ w.if-processors-u.false)
+    ])
 
 pub returns : goal.returns
 returns c =

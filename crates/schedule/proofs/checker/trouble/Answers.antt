@@ -28,11 +28,16 @@ returns-then-number-ne0 c =
 
 pub any_overlap-overlap-requires : goal.any_overlap-overlap-requires
 any_overlap-overlap-requires c =
-    judgeable (fits (goal.at.any_overlap-overlap-requires c).After-misplaced-number) _ _ c.misplaced-number.ensures c.if-number-ne0.false (room (goal.at.any_overlap-overlap-requires c).After-misplaced-number)
+    judgeable (fits (goal.at.any_overlap-overlap-requires c).After-misplaced-number) _ _ c.misplaced-number.ensures
+        c.if-number-ne0.false (room (goal.at.any_overlap-overlap-requires c).After-misplaced-number)
 
 pub any_early-early-requires : goal.any_early-early-requires
 any_early-early-requires c =
-    record { edges_in_bounds = edges_there (fits (goal.at.any_early-early-requires c).After-misplaced-number); by_index = joined (fits (goal.at.any_early-early-requires c).After-misplaced-number) _ _ c.misplaced-number.ensures c.if-number-ne0.false (room (goal.at.any_early-early-requires c).After-misplaced-number) }
+    record {
+      edges_in_bounds = edges_there (fits (goal.at.any_early-early-requires c).After-misplaced-number);
+      by_index = joined (fits (goal.at.any_early-early-requires c).After-misplaced-number) _ _ c.misplaced-number.ensures
+          c.if-number-ne0.false (room (goal.at.any_early-early-requires c).After-misplaced-number);
+    }
 
 pub returns-then-overlap : goal.returns-then-overlap
 returns-then-overlap c =

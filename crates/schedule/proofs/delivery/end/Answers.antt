@@ -109,7 +109,8 @@ pub overflow_add-arrival-then-count-ne0 : goal.overflow_add-arrival-then-count-n
 overflow_add-arrival-then-count-ne0 c =
     let p-is = c.index-p.ensures.0 in
     let h = c.loop-t-test.true in
-    fits (omega (arith, finished c.requires (g (goal.at.overflow_add-arrival-then-count-ne0 c).In-loop-t) h, near c.requires (g (goal.at.overflow_add-arrival-then-count-ne0 c).In-loop-t) h c.wide16-count.ensures p-is))
+    fits (omega (arith, finished c.requires (g (goal.at.overflow_add-arrival-then-count-ne0 c).In-loop-t) h, near c.requires
+        (g (goal.at.overflow_add-arrival-then-count-ne0 c).In-loop-t) h c.wide16-count.ensures p-is))
 
 pub overflow_add-t : goal.overflow_add-t
 overflow_add-t c =
@@ -118,7 +119,17 @@ overflow_add-t c =
 pub loop-t-preserved : goal.loop-t-preserved
 loop-t-preserved c =
     let h = c.loop-t-test.true in
-    (elim c.if-count-ne0.branch [ then-count-ne0+then-end-arrival a ↦ later c.requires (g (goal.at.loop-t-preserved c).In-loop-t) h c.wide16-count.ensures a.index-p.ensures.0 (omega (arith, a.end-is, a.if-end-arrival.true)) | then-count-ne0+else-end-arrival a ↦ later c.requires (g (goal.at.loop-t-preserved c).In-loop-t) h c.wide16-count.ensures a.index-p.ensures.0 (omega (arith, a.end-is, a.if-end-arrival.false)) | else-count-ne0 a ↦ nothing c.requires (g (goal.at.loop-t-preserved c).In-loop-t) h (omega (arith, c.wide16-count.ensures, a.if-count-ne0.false)) a.end-is ])
+    (elim c.if-count-ne0.branch [
+      then-count-ne0+then-end-arrival a ↦
+          later c.requires (g (goal.at.loop-t-preserved c).In-loop-t) h c.wide16-count.ensures a.index-p.ensures.0
+              (omega (arith, a.end-is, a.if-end-arrival.true))
+      | then-count-ne0+else-end-arrival a ↦
+          later c.requires (g (goal.at.loop-t-preserved c).In-loop-t) h c.wide16-count.ensures a.index-p.ensures.0
+              (omega (arith, a.end-is, a.if-end-arrival.false))
+      | else-count-ne0 a ↦
+          nothing c.requires (g (goal.at.loop-t-preserved c).In-loop-t) h (omega (arith, c.wide16-count.ensures, a.if-count-ne0.false))
+              a.end-is
+    ])
 
 pub returns : goal.returns
 returns c =

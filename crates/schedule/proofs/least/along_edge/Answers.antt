@@ -179,7 +179,12 @@ module _ (y : Joined-soonest-latest) where
 -- ---- the needs
 pub sent_along-sent-requires : goal.sent_along-sent-requires
 sent_along-sent-requires c =
-    let S = c.requires.by_index 0 in record { k_in_bounds = (c.requires.k_in_bounds.0, c.requires.k_in_bounds.1); k_in_bounds_2 = (S.has_start, S.has_duration, S.has_processor); k_bound = S.in_time }
+    let S = c.requires.by_index 0 in
+    record {
+      k_in_bounds = (c.requires.k_in_bounds.0, c.requires.k_in_bounds.1);
+      k_in_bounds_2 = (S.has_start, S.has_duration, S.has_processor);
+      k_bound = S.in_time;
+    }
 
 pub overflow_mul-count : goal.overflow_mul-count
 overflow_mul-count c =
@@ -187,11 +192,18 @@ overflow_mul-count c =
 
 pub overflow_add-finish : goal.overflow_add-finish
 overflow_add-finish c =
-    record { fits = omega (arith, most_near (goal.at.overflow_add-finish c).After-sent_along-sent, sent_in_time (goal.at.overflow_add-finish c).After-sent_along-sent) }
+    record {
+      fits = omega (arith, most_near (goal.at.overflow_add-finish c).After-sent_along-sent, sent_in_time
+          (goal.at.overflow_add-finish c).After-sent_along-sent);
+    }
 
 pub returns-then-finish-count : goal.returns-then-finish-count
 returns-then-finish-count c =
-    none_serves (sends (goal.at.returns-then-finish-count c).After-sent_along-sent) (costs_are (goal.at.returns-then-finish-count c).After-sent_along-sent) (p_sent (goal.at.returns-then-finish-count c).After-sent_along-sent) (w_sent (goal.at.returns-then-finish-count c).After-sent_along-sent) (f_sent (goal.at.returns-then-finish-count c).After-sent_along-sent) _ _ (omega (arith, c.if-finish-count.true))
+    none_serves (sends (goal.at.returns-then-finish-count c).After-sent_along-sent)
+        (costs_are (goal.at.returns-then-finish-count c).After-sent_along-sent)
+            (p_sent (goal.at.returns-then-finish-count c).After-sent_along-sent)
+                (w_sent (goal.at.returns-then-finish-count c).After-sent_along-sent)
+                    (f_sent (goal.at.returns-then-finish-count c).After-sent_along-sent) _ _ (omega (arith, c.if-finish-count.true))
 
 pub overflow_cast-p : goal.overflow_cast-p
 overflow_cast-p c =
@@ -220,7 +232,8 @@ offset_bounds-nearest-p c =
 
 pub bounds-nearest-p : goal.bounds-nearest-p
 bounds-nearest-p c =
-    omega (arith, small (goal.at.bounds-nearest-p c).After-sent_along-sent, (costs_are (goal.at.bounds-nearest-p c).After-sent_along-sent).has_nearest)
+    omega (arith, small (goal.at.bounds-nearest-p c).After-sent_along-sent,
+        (costs_are (goal.at.bounds-nearest-p c).After-sent_along-sent).has_nearest)
 
 pub overflow_mul-soonest : goal.overflow_mul-soonest
 overflow_mul-soonest c =
@@ -228,7 +241,10 @@ overflow_mul-soonest c =
 
 pub overflow_add-soonest : goal.overflow_add-soonest
 overflow_add-soonest c =
-    record { fits = omega (arith, nearest_near (goal.at.overflow_add-soonest c).After-sent_along-sent, sent_in_time (goal.at.overflow_add-soonest c).After-sent_along-sent) }
+    record {
+      fits = omega (arith, nearest_near (goal.at.overflow_add-soonest c).After-sent_along-sent, sent_in_time
+          (goal.at.overflow_add-soonest c).After-sent_along-sent);
+    }
 
 pub offset_bounds-costs-p : goal.offset_bounds-costs-p
 offset_bounds-costs-p c =
@@ -244,12 +260,29 @@ overflow_sub-first c =
 
 pub overflow_add-before : goal.overflow_add-before
 overflow_add-before c =
-    record { fits = omega (arith, first_is (goal.at.overflow_add-before c).Joined-soonest-latest, served_most (goal.at.overflow_add-before c).Joined-soonest-latest, most_near (goal.at.overflow_add-before c).After-sent_along-sent, nearest_near (goal.at.overflow_add-before c).After-sent_along-sent, c.requires.k_in_bounds.3) }
+    record {
+      fits = omega (arith, first_is (goal.at.overflow_add-before c).Joined-soonest-latest, served_most
+          (goal.at.overflow_add-before c).Joined-soonest-latest, most_near (goal.at.overflow_add-before c).After-sent_along-sent,
+              nearest_near (goal.at.overflow_add-before c).After-sent_along-sent, c.requires.k_in_bounds.3);
+    }
 
 pub through-requires : goal.through-requires
 through-requires c =
-    let S = sends (goal.at.through-requires c).After-sent_along-sent in record { row_len = (search rules, c.requires.k_in_bounds.2, sent_in_time (goal.at.through-requires c).After-sent_along-sent, c.requires.k_in_bounds.3); by_index = λ P. time_most (S P) (p_sent (goal.at.through-requires c).After-sent_along-sent) (w_sent (goal.at.through-requires c).After-sent_along-sent); by_index_2 = no_less S (costs_are (goal.at.through-requires c).After-sent_along-sent) (p_sent (goal.at.through-requires c).After-sent_along-sent) (w_sent (goal.at.through-requires c).After-sent_along-sent) (f_sent (goal.at.through-requires c).After-sent_along-sent) (not_there (goal.at.through-requires c).Joined-soonest-latest) _ (first_is (goal.at.through-requires c).Joined-soonest-latest) }
+    let S = sends (goal.at.through-requires c).After-sent_along-sent in
+    record {
+      row_len = (search rules, c.requires.k_in_bounds.2, sent_in_time (goal.at.through-requires c).After-sent_along-sent,
+          c.requires.k_in_bounds.3);
+      by_index = λ P. time_most (S P) (p_sent (goal.at.through-requires c).After-sent_along-sent)
+          (w_sent (goal.at.through-requires c).After-sent_along-sent);
+      by_index_2 = no_less S (costs_are (goal.at.through-requires c).After-sent_along-sent)
+          (p_sent (goal.at.through-requires c).After-sent_along-sent) (w_sent (goal.at.through-requires c).After-sent_along-sent)
+              (f_sent (goal.at.through-requires c).After-sent_along-sent)
+                  (not_there (goal.at.through-requires c).Joined-soonest-latest) _
+                      (first_is (goal.at.through-requires c).Joined-soonest-latest);
+    }
 
 pub returns : goal.returns
 returns c =
-    as_sent (sends (goal.at.returns c).After-sent_along-sent) (costs_are (goal.at.returns c).After-sent_along-sent) (p_sent (goal.at.returns c).After-sent_along-sent) (w_sent (goal.at.returns c).After-sent_along-sent) (f_sent (goal.at.returns c).After-sent_along-sent) _ c.through.ensures
+    as_sent (sends (goal.at.returns c).After-sent_along-sent) (costs_are (goal.at.returns c).After-sent_along-sent)
+        (p_sent (goal.at.returns c).After-sent_along-sent) (w_sent (goal.at.returns c).After-sent_along-sent)
+            (f_sent (goal.at.returns c).After-sent_along-sent) _ c.through.ensures

@@ -34,7 +34,8 @@ along_edge-requires c =
         c.requires.latest_len.2 _ c.index-t.ensures.1,
         sum_most _ _ _ _ _ _ _ _ _ known _ c.index-s.ensures.1,
         search rules,
-      ); by_index = (λ P. c.requires.by_index_3 _ P (further (goal.at.along_edge-requires c).After-slice_known-in-loop-k-2-1)); between = rw c.index-t.ensures.0 (c.requires.by_index_4 _ (further (goal.at.along_edge-requires c).After-slice_known-in-loop-k-2-1)) }
+      ); by_index = (λ P. c.requires.by_index_3 _ P (further (goal.at.along_edge-requires c).After-slice_known-in-loop-k-2-1)); between
+          = rw c.index-t.ensures.0 (c.requires.by_index_4 _ (further (goal.at.along_edge-requires c).After-slice_known-in-loop-k-2-1)) }
 
 pub loop-k-preserved : goal.loop-k-preserved
 loop-k-preserved c =
@@ -47,7 +48,8 @@ loop-k-preserved c =
     let up = c.requires.by_index_2 _ (further (goal.at.loop-k-preserved c).After-slice_known-in-loop-k-2-1) in (
       search rules,
       (elim c.if-sums-s.branch [ then-sums-s w ↦ one_more _ _ _ _ _ _ _ _ _ known rises up s.0 t.0 t.1 w.along_edge.ensures
-          (stored (omega (arith, t.1, known.has_sums)) w.sums-is) | else-sums-s w ↦ one_more _ _ _ _ _ _ _ _ _ known rises up s.0 t.0 t.1 (not_lower _ _ (omega (arith, w.if-sums-s.false))) (kept w.sums-is) ]),
+          (stored (omega (arith, t.1, known.has_sums)) w.sums-is) | else-sums-s w ↦ one_more _ _ _ _ _ _ _ _ _ known rises up s.0 t.0
+              t.1 (not_lower _ _ (omega (arith, w.if-sums-s.false))) (kept w.sums-is) ]),
     )
 
 pub returns : goal.returns

@@ -21,12 +21,25 @@ pub along_edges-requires : goal.along_edges-requires
 along_edges-requires c =
     let F = c.requires.by_index.1.plannable in
     let S = scheduled F c.requires.by_index.1.plan in
-    let R = c.requires.short_ticks in record { edges_in_bounds = edges_there F; by_index = climb F; by_index_2 = F.forward; by_index_3 = sender F S; latest_len = (R.has_latest, R.has_idle, λ T b. few_bits F S R T); by_index_4 = between F S R c.requires.most_value c.nearest.ensures; unwalked = c.unwalked.ensures }
+    let R = c.requires.short_ticks in
+    record {
+      edges_in_bounds = edges_there F;
+      by_index = climb F;
+      by_index_2 = F.forward;
+      by_index_3 = sender F S;
+      latest_len = (R.has_latest, R.has_idle, λ T b. few_bits F S R T);
+      by_index_4 = between F S R c.requires.most_value c.nearest.ensures;
+      unwalked = c.unwalked.ensures;
+    }
 
 pub of_last-requires : goal.of_last-requires
 of_last-requires c =
     let given = c.requires.by_index.1 in
-    let S = scheduled given.plannable given.plan in record { tasks_in_bounds = (S.has_durations, S.has_starts, omega (arith, c.along_edges.ensures.has_sums, S.few)); by_index = λ T b. (S.takes_time T b, S.in_time T b) }
+    let S = scheduled given.plannable given.plan in
+    record {
+      tasks_in_bounds = (S.has_durations, S.has_starts, omega (arith, c.along_edges.ensures.has_sums, S.few));
+      by_index = λ T b. (S.takes_time T b, S.in_time T b);
+    }
 
 pub returns : goal.returns
 returns c order H =

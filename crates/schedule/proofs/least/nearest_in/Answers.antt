@@ -35,7 +35,8 @@ loop-q-preserved c =
       (elim c.if-q-p.branch [
         then-q-p+then-cost-least w ↦ one_more v.2 (omega (arith, w.if-cost-least.true, w.least-is)) (λ d. omega (arith, w.least-is))
         | then-q-p+else-cost-least w ↦ one_more v.2 (omega (arith, w.least-is)) (λ d. omega (arith, w.if-cost-least.false, w.least-is))
-        | else-q-p+else-cost-ne0 w ↦ one_more v.2 (omega (arith, w.least-is)) (λ d. absurd (d (omega (arith, w.if-q-p.false), omega (arith, w.if-cost-ne0.false))))
+        | else-q-p+else-cost-ne0 w ↦ one_more v.2 (omega (arith, w.least-is))
+            (λ d. absurd (d (omega (arith, w.if-q-p.false), omega (arith, w.if-cost-ne0.false))))
       ]),
     )
 

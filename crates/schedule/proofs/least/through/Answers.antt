@@ -9,7 +9,8 @@ use lib.ListN.{get_or}
 use Rattle.etf.specs.Bounds.{most_message_time}
 use Rattle.schedule.proofs.least.through.Invariants.{begun, done, enough, q_small, fewer, lower, no_lower, too_early, turn}
 use Rattle.schedule.proofs.least.through.Goals as goal
-use Rattle.schedule.proofs.least.through.Goals.{Else-least-bound, else-latest-finish, then-latest-finish+else-sum-least, then-latest-finish+then-sum-least}
+use Rattle.schedule.proofs.least.through.Goals.{Else-least-bound, else-latest-finish, then-latest-finish+else-sum-least}
+use Rattle.schedule.proofs.least.through.Goals.{then-latest-finish+then-sum-least}
 
 -- ---- in the loop
 
@@ -74,7 +75,12 @@ loop-rest-preserved c =
     let g = c.loop-rest.invariant in
     let n = some_left (goal.at.loop-rest-preserved c).Else-least-bound in
     turn _ _ _ _ _ _ g n
-    ((elim c.if-latest-finish.branch [ then-latest-finish+then-sum-least v ↦ lower _ _ _ _ _ _ g n refl refl (omega (arith, v.if-latest-finish.true)) (omega (arith, v.if-sum-least.true)) v.least-is | then-latest-finish+else-sum-least v ↦ no_lower _ _ _ _ _ _ g n refl refl (omega (arith, v.if-sum-least.false)) v.least-is | else-latest-finish v ↦ too_early _ _ _ _ _ _ g n refl refl (omega (arith, v.if-latest-finish.false)) v.least-is ]))
+    ((elim c.if-latest-finish.branch [
+      then-latest-finish+then-sum-least v ↦
+          lower _ _ _ _ _ _ g n refl refl (omega (arith, v.if-latest-finish.true)) (omega (arith, v.if-sum-least.true)) v.least-is
+      | then-latest-finish+else-sum-least v ↦ no_lower _ _ _ _ _ _ g n refl refl (omega (arith, v.if-sum-least.false)) v.least-is
+      | else-latest-finish v ↦ too_early _ _ _ _ _ _ g n refl refl (omega (arith, v.if-latest-finish.false)) v.least-is
+    ]))
 
 pub returns : goal.returns
 returns c =

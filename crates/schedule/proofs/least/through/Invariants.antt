@@ -139,7 +139,8 @@ module _ (idle latest low before : ℕ) (reach time : ℕ → ℕ) where
             go (inr (P, v, d)) = inr (P, newer P v, e ∙ d)
 
 abbrev pub invariant-loop-rest : goal.invariant-loop-rest
-invariant-loop-rest l = Going l.idle l.latest l.low l.before (λ P. l.finish + l.count * get_or l.row P 0) (λ P. l.count * get_or l.row P 0) l.least l.rest
+invariant-loop-rest l = Going l.idle l.latest l.low l.before (λ P. l.finish + l.count * get_or l.row P 0)
+    (λ P. l.count * get_or l.row P 0) l.least l.rest
 
 abbrev pub decreases-loop-rest : goal.decreases-loop-rest
 decreases-loop-rest l = l.rest

@@ -16,7 +16,10 @@ loop-t-init c =
 pub loop-t-preserved : goal.loop-t-preserved
 loop-t-preserved c =
     turn _ c.loop-t.invariant (search rules) (stored (search rules) refl)
-    ((elim c.if-idle-t-eq0.branch [ then-idle-t-eq0 w ↦ inr (omega (arith, w.if-idle-t-eq0.true), w.first-is) | else-idle-t-eq0 w ↦ inl (omega (arith, w.if-idle-t-eq0.false), w.first-is) ]))
+    ((elim c.if-idle-t-eq0.branch [
+      then-idle-t-eq0 w ↦ inr (omega (arith, w.if-idle-t-eq0.true), w.first-is)
+      | else-idle-t-eq0 w ↦ inl (omega (arith, w.if-idle-t-eq0.false), w.first-is)
+    ]))
 
 pub returns : goal.returns
 returns c =

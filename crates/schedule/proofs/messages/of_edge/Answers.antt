@@ -22,7 +22,12 @@ module _ (x : After-sent_along-sent) where
 
 pub sent_along-sent-requires : goal.sent_along-sent-requires
 sent_along-sent-requires c =
-    let S = c.requires.sender in record { k_in_bounds = (c.requires.k_in_bounds.0, c.requires.k_in_bounds.1); k_in_bounds_2 = (S.has_start, S.has_duration, S.has_processor); k_bound = S.in_time }
+    let S = c.requires.sender in
+    record {
+      k_in_bounds = (c.requires.k_in_bounds.0, c.requires.k_in_bounds.1);
+      k_in_bounds_2 = (S.has_start, S.has_duration, S.has_processor);
+      k_bound = S.in_time;
+    }
 
 pub bounds-costs-p : goal.bounds-costs-p
 bounds-costs-p c =
@@ -34,8 +39,17 @@ overflow_mul-time c =
 
 pub overflow_add-result : goal.overflow_add-result
 overflow_add-result c =
-    record { fits = omega (arith, takes_most (goal.at.overflow_add-result c).After-sent_along-sent, sent_most (sender (goal.at.overflow_add-result c).After-sent_along-sent) c.sent_along-sent.ensures.finish_value) }
+    record {
+      fits = omega (arith, takes_most (goal.at.overflow_add-result c).After-sent_along-sent, sent_most
+          (sender (goal.at.overflow_add-result c).After-sent_along-sent) c.sent_along-sent.ensures.finish_value);
+    }
 
 pub returns : goal.returns
 returns c =
-    record { sender_value = c.sent_along-sent.ensures.sender_value; time_value = time_is (sender (goal.at.returns c).After-sent_along-sent) c.sent_along-sent.ensures.processor_value c.sent_along-sent.ensures.count_value; arrival_value = arrival_is (sender (goal.at.returns c).After-sent_along-sent) c.sent_along-sent.ensures.processor_value c.sent_along-sent.ensures.count_value c.sent_along-sent.ensures.finish_value }
+    record {
+      sender_value = c.sent_along-sent.ensures.sender_value;
+      time_value = time_is (sender (goal.at.returns c).After-sent_along-sent) c.sent_along-sent.ensures.processor_value
+          c.sent_along-sent.ensures.count_value;
+      arrival_value = arrival_is (sender (goal.at.returns c).After-sent_along-sent) c.sent_along-sent.ensures.processor_value
+          c.sent_along-sent.ensures.count_value c.sent_along-sent.ensures.finish_value;
+    }

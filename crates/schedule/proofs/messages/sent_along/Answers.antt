@@ -25,4 +25,10 @@ pub returns : goal.returns
 returns c =
     let args = c.args in
     let s = c.index-s.ensures.0 in
-    let p = read_same s args.processors.now c.index.ensures.0 in record { sender_value = s; processor_value = p; count_value = c.wide16.ensures; finish_value = sum_same s args.starts.now args.durations.now }
+    let p = read_same s args.processors.now c.index.ensures.0 in
+    record {
+      sender_value = s;
+      processor_value = p;
+      count_value = c.wide16.ensures;
+      finish_value = sum_same s args.starts.now args.durations.now;
+    }

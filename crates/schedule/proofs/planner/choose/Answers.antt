@@ -9,7 +9,8 @@ use Rattle.schedule.specs.Laws.Planner.SearchSteps.{row_late, row_none, search_f
 use Rattle.schedule.specs.Laws.Planner.SearchSteps.{from_same, from_waits, from_unfinished, from_tried, from_stopped}
 use Rattle.schedule.proofs.planner.choose.Invariants.{at}
 use Rattle.schedule.proofs.planner.choose.Goals as goal
-use Rattle.schedule.proofs.planner.choose.Goals.{In-loop-i, else-waiting-t-eq0, then-waiting-t-eq0+else-latest-t, then-waiting-t-eq0+then-latest-t+else-best-clock}
+use Rattle.schedule.proofs.planner.choose.Goals.{In-loop-i, else-waiting-t-eq0, then-waiting-t-eq0+else-latest-t}
+use Rattle.schedule.proofs.planner.choose.Goals.{then-waiting-t-eq0+then-latest-t+else-best-clock}
 
 -- ---- what is known in the loop
 
@@ -66,9 +67,12 @@ returns-then-best-clock c =
 pub loop-i-preserved : goal.loop-i-preserved
 loop-i-preserved c =
     let v = c.loop-i.invariant in
-    (elim c.if-waiting-t-eq0.branch [ then-waiting-t-eq0+then-latest-t+else-best-clock w ↦ from_same _ _ _ _ _ _ _ _ _ _ w.best-is (search rules) w.if-best-clock.false
-    (from_tried _ _ _ _ _ _ _ _ _ (search rules) v.2 w.if-waiting-t-eq0.true w.if-latest-t.true _ w.try_task-best.ensures) | then-waiting-t-eq0+else-latest-t w ↦ from_same _ _ _ _ _ _ _ _ _ _ w.best-is (search rules) v.1
-    (from_unfinished _ _ _ _ _ _ _ _ _ (search rules) v.2 w.if-waiting-t-eq0.true w.if-latest-t.false) | else-waiting-t-eq0 w ↦ from_same _ _ _ _ _ _ _ _ _ _ w.best-is (search rules) v.1
+    (elim c.if-waiting-t-eq0.branch
+        [ then-waiting-t-eq0+then-latest-t+else-best-clock w ↦ from_same _ _ _ _ _ _ _ _ _ _ w.best-is (search rules) w.if-best-clock.false
+    (from_tried _ _ _ _ _ _ _ _ _ (search rules) v.2 w.if-waiting-t-eq0.true w.if-latest-t.true _ w.try_task-best.ensures) |
+        then-waiting-t-eq0+else-latest-t w ↦ from_same _ _ _ _ _ _ _ _ _ _ w.best-is (search rules) v.1
+    (from_unfinished _ _ _ _ _ _ _ _ _ (search rules) v.2 w.if-waiting-t-eq0.true w.if-latest-t.false) | else-waiting-t-eq0 w
+        ↦ from_same _ _ _ _ _ _ _ _ _ _ w.best-is (search rules) v.1
     (from_waits _ _ _ _ _ _ _ _ _ (search rules) v.2 w.if-waiting-t-eq0.false) ])
 
 pub returns : goal.returns

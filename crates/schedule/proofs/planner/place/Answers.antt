@@ -50,7 +50,11 @@ bounds-costs-p c =
 
 pub put-requires : goal.put-requires
 put-requires c =
-    let asked = c.requires.to_place in record { task_in_bounds = (asked.has_start, asked.has_processor, waiting_room asked); processor_in_bounds = (omega (arith, asked.processor_below, asked.busy_size), omega (arith, asked.processor_below)) }
+    let asked = c.requires.to_place in
+    record {
+      task_in_bounds = (asked.has_start, asked.has_processor, waiting_room asked);
+      processor_in_bounds = (omega (arith, asked.processor_below, asked.busy_size), omega (arith, asked.processor_below));
+    }
 
 pub slice_bounds-send-end : goal.slice_bounds-send-end
 slice_bounds-send-end c =
@@ -89,5 +93,6 @@ shape_of-busy c = c.put.auto.busy
 
 pub returns : goal.returns
 returns c =
-    together c.requires.to_place c.put.ensures.waiting_after c.put.ensures.starts_after c.put.ensures.processors_after c.put.ensures.busy_after c.send.ensures
+    together c.requires.to_place c.put.ensures.waiting_after c.put.ensures.starts_after c.put.ensures.processors_after
+        c.put.ensures.busy_after c.send.ensures
     c.skip.ensures

@@ -62,7 +62,10 @@ loop-p-preserved c =
     let stored : c.if-before-arrival.arrivals
     ≡ max (get_or c.loop-p.arrivals (16 * args.task + c.loop-p.p) 0)
     (args.finish + args.count * get_or args.row.now c.loop-p.p 0) =
-    (elim c.if-before-arrival.branch [ then-before-arrival w ↦ w.arrivals-is ∙ later _ _ w.if-before-arrival.true | else-before-arrival w ↦ w.arrivals-is ∙ not_later _ _ w.if-before-arrival.false ]) in
+    (elim c.if-before-arrival.branch [
+      then-before-arrival w ↦ w.arrivals-is ∙ later _ _ w.if-before-arrival.true
+      | else-before-arrival w ↦ w.arrivals-is ∙ not_later _ _ w.if-before-arrival.false
+    ]) in
     let r = raises _ _ _ _ _ _ _ v.2 _ stored (search rules) in
     (search rules, r.0 ∙ v.1, r.1)
 

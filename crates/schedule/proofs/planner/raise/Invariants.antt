@@ -6,7 +6,8 @@ use Rattle.schedule.specs.Pass.{Raised}
 use Rattle.schedule.proofs.planner.raise.Given as goal
 
 abbrev pub invariant-loop-p : goal.invariant-loop-p
-invariant-loop-p l = (l.p ≤ l.n) × (length l.arrivals ≡ length l.initial.arrivals) × Raised l.p l.task l.finish l.count l.row l.initial.arrivals l.arrivals
+invariant-loop-p l = (l.p ≤ l.n) × (length l.arrivals ≡ length l.initial.arrivals) × Raised l.p l.task l.finish l.count l.row
+    l.initial.arrivals l.arrivals
 
 abbrev pub decreases-loop-p : goal.decreases-loop-p
 decreases-loop-p l = l.n - l.p

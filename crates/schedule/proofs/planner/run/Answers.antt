@@ -20,7 +20,8 @@ use Rattle.schedule.specs.Laws.Planner.Invariant.{Invariant, holds_first, holds_
 use Rattle.schedule.specs.Laws.Planner.Invariant.{task_small, finish_small, to_place, holds_placed, holds_moved}
 use Rattle.schedule.specs.Laws.Rows.Lifted.{later, not_later}
 use Rattle.schedule.proofs.planner.run.Goals as goal
-use Rattle.schedule.proofs.planner.run.Goals.{At-loop-low, In-loop-low, else-pair-next, then-pair-next+else-end-done, then-pair-next+then-end-done}
+use Rattle.schedule.proofs.planner.run.Goals.{At-loop-low, In-loop-low, else-pair-next, then-pair-next+else-end-done}
+use Rattle.schedule.proofs.planner.run.Goals.{then-pair-next+then-end-done}
 
 -- ---- in plain numbers
 
@@ -85,7 +86,8 @@ pub loop-low-init : goal.loop-low-init
 loop-low-init c =
     let F = c.requires.plannable in
     let counted = counts_at _ _ (edges_there F).1 (omega (arith, F.few_edges)) c.counts-waiting.ensures in
-    (refl, holds_first c.requires.plannable c.requires.tasks_in_bounds.1 refl refl refl counted.0 counted.1 refl (zeros_at 256) refl (zeros_at 16))
+    (refl, holds_first c.requires.plannable c.requires.tasks_in_bounds.1 refl refl refl counted.0 counted.1 refl (zeros_at 256) refl
+        (zeros_at 16))
 
 pub slice_bounds-look-end : goal.slice_bounds-look-end
 slice_bounds-look-end c =
@@ -105,7 +107,15 @@ slice_bounds-look-end-in-loop-low-3 c =
 
 pub look-choice-requires : goal.look-choice-requires
 look-choice-requires c =
-    let Y = c.loop-low.invariant.1 in record { n_bound = ((given (goal.at.look-choice-requires c).At-loop-low).few_processors, clock_small (given (goal.at.look-choice-requires c).At-loop-low) (room (goal.at.look-choice-requires c).At-loop-low) Y, le_of_lt (remain (goal.at.look-choice-requires c).In-loop-low), (given (goal.at.look-choice-requires c).At-loop-low).few_tasks); busy_len = (Y.busy_size, Y.waiting_size, Y.latest_size, arrivals_room (given (goal.at.look-choice-requires c).At-loop-low) (room (goal.at.look-choice-requires c).At-loop-low) Y); order_in = (ordered (goal.at.look-choice-requires c).At-loop-low, c.loop-low.invariant.0) }
+    let Y = c.loop-low.invariant.1 in
+    record {
+      n_bound = ((given (goal.at.look-choice-requires c).At-loop-low).few_processors, clock_small
+          (given (goal.at.look-choice-requires c).At-loop-low) (room (goal.at.look-choice-requires c).At-loop-low) Y, le_of_lt
+              (remain (goal.at.look-choice-requires c).In-loop-low), (given (goal.at.look-choice-requires c).At-loop-low).few_tasks);
+      busy_len = (Y.busy_size, Y.waiting_size, Y.latest_size, arrivals_room (given (goal.at.look-choice-requires c).At-loop-low)
+          (room (goal.at.look-choice-requires c).At-loop-low) Y);
+      order_in = (ordered (goal.at.look-choice-requires c).At-loop-low, c.loop-low.invariant.0);
+    }
 
 pub slice_bounds-finish-end : goal.slice_bounds-finish-end
 slice_bounds-finish-end c =
@@ -138,15 +148,22 @@ slice_bounds-place-end-then-pair-next-2 c =
 pub place-low-requires : goal.place-low-requires
 place-low-requires c =
     record { to_place = asked_of c.finish-done.ensures.first_value c.finish-done.ensures.last_value
-          (to_place (given (goal.at.place-low-requires c).At-loop-low) (room (goal.at.place-low-requires c).At-loop-low) c.loop-low.invariant.1 (remain (goal.at.place-low-requires c).In-loop-low) c.look-choice.ensures (omega (arith, c.if-pair-next.true)) (edge_runs (goal.at.place-low-requires c).At-loop-low) c.finish-done.ensures.finish_value); order_in = ordered (goal.at.place-low-requires c).At-loop-low }
+          (to_place (given (goal.at.place-low-requires c).At-loop-low) (room (goal.at.place-low-requires c).At-loop-low)
+              c.loop-low.invariant.1 (remain (goal.at.place-low-requires c).In-loop-low) c.look-choice.ensures
+                  (omega (arith, c.if-pair-next.true)) (edge_runs (goal.at.place-low-requires c).At-loop-low)
+                      c.finish-done.ensures.finish_value); order_in = ordered (goal.at.place-low-requires c).At-loop-low }
 
 pub overflow_add-rounds : goal.overflow_add-rounds
 overflow_add-rounds c =
-    Fits-below tt (rounds_small _ _ (more_rounds (given (goal.at.overflow_add-rounds c).At-loop-low) (room (goal.at.overflow_add-rounds c).At-loop-low) c.loop-low.invariant.1 (remain (goal.at.overflow_add-rounds c).In-loop-low)) (given (goal.at.overflow_add-rounds c).At-loop-low).few_tasks)
+    Fits-below tt (rounds_small _ _
+        (more_rounds (given (goal.at.overflow_add-rounds c).At-loop-low) (room (goal.at.overflow_add-rounds c).At-loop-low)
+            c.loop-low.invariant.1 (remain (goal.at.overflow_add-rounds c).In-loop-low))
+                (given (goal.at.overflow_add-rounds c).At-loop-low).few_tasks)
 
 pub loop-low-smaller : goal.loop-low-smaller
 loop-low-smaller c =
-    rounds_left _ _ (more_rounds (given (goal.at.loop-low-smaller c).At-loop-low) (room (goal.at.loop-low-smaller c).At-loop-low) c.loop-low.invariant.1 (remain (goal.at.loop-low-smaller c).In-loop-low))
+    rounds_left _ _ (more_rounds (given (goal.at.loop-low-smaller c).At-loop-low) (room (goal.at.loop-low-smaller c).At-loop-low)
+        c.loop-low.invariant.1 (remain (goal.at.loop-low-smaller c).In-loop-low))
 
 pub loop-low-preserved : goal.loop-low-preserved
 loop-low-preserved c =
@@ -154,12 +171,22 @@ loop-low-preserved c =
     let runs = edge_runs (goal.at.loop-low-preserved c).At-loop-low in (
       c.look-choice.auto.free ∙ c.loop-low.invariant.0,
       (elim c.if-pair-next.branch [ then-pair-next+then-end-done w ↦ carried
-          (holds_placed (given (goal.at.loop-low-preserved c).At-loop-low) (room (goal.at.loop-low-preserved c).At-loop-low) c.loop-low.invariant.1 (remain (goal.at.loop-low-preserved c).In-loop-low) found (omega (arith, w.if-pair-next.true)) runs w.finish-done.ensures.finish_value
-          (placed_of w.finish-done.ensures.first_value w.finish-done.ensures.last_value w.place-low.ensures) (later _ _ w.if-end-done.true) w.place-low.auto.arrivals w.place-low.auto.waiting w.place-low.auto.latest)
-          w.starts-is w.processors-is w.arrivals-is w.waiting-is w.latest-is w.busy-is w.clock-is w.end-is w.low-is | then-pair-next+else-end-done w ↦ carried
-          (holds_placed (given (goal.at.loop-low-preserved c).At-loop-low) (room (goal.at.loop-low-preserved c).At-loop-low) c.loop-low.invariant.1 (remain (goal.at.loop-low-preserved c).In-loop-low) found (omega (arith, w.if-pair-next.true)) runs w.finish-done.ensures.finish_value
-          (placed_of w.finish-done.ensures.first_value w.finish-done.ensures.last_value w.place-low.ensures) (not_later _ _ w.if-end-done.false) w.place-low.auto.arrivals w.place-low.auto.waiting w.place-low.auto.latest)
-          w.starts-is w.processors-is w.arrivals-is w.waiting-is w.latest-is w.busy-is w.clock-is w.end-is w.low-is | else-pair-next w ↦ carried (holds_moved (given (goal.at.loop-low-preserved c).At-loop-low) (room (goal.at.loop-low-preserved c).At-loop-low) c.loop-low.invariant.1 (remain (goal.at.loop-low-preserved c).In-loop-low) found (omega (arith, w.if-pair-next.false)))
+          (holds_placed (given (goal.at.loop-low-preserved c).At-loop-low) (room (goal.at.loop-low-preserved c).At-loop-low)
+              c.loop-low.invariant.1 (remain (goal.at.loop-low-preserved c).In-loop-low) found (omega (arith, w.if-pair-next.true))
+                  runs w.finish-done.ensures.finish_value
+          (placed_of w.finish-done.ensures.first_value w.finish-done.ensures.last_value w.place-low.ensures)
+              (later _ _ w.if-end-done.true) w.place-low.auto.arrivals w.place-low.auto.waiting w.place-low.auto.latest)
+          w.starts-is w.processors-is w.arrivals-is w.waiting-is w.latest-is w.busy-is w.clock-is w.end-is w.low-is |
+              then-pair-next+else-end-done w ↦ carried
+          (holds_placed (given (goal.at.loop-low-preserved c).At-loop-low) (room (goal.at.loop-low-preserved c).At-loop-low)
+              c.loop-low.invariant.1 (remain (goal.at.loop-low-preserved c).In-loop-low) found (omega (arith, w.if-pair-next.true))
+                  runs w.finish-done.ensures.finish_value
+          (placed_of w.finish-done.ensures.first_value w.finish-done.ensures.last_value w.place-low.ensures)
+              (not_later _ _ w.if-end-done.false) w.place-low.auto.arrivals w.place-low.auto.waiting w.place-low.auto.latest)
+          w.starts-is w.processors-is w.arrivals-is w.waiting-is w.latest-is w.busy-is w.clock-is w.end-is w.low-is | else-pair-next w
+              ↦ carried (holds_moved (given (goal.at.loop-low-preserved c).At-loop-low)
+                  (room (goal.at.loop-low-preserved c).At-loop-low) c.loop-low.invariant.1
+                      (remain (goal.at.loop-low-preserved c).In-loop-low) found (omega (arith, w.if-pair-next.false)))
           w.starts-is w.processors-is w.arrivals-is w.waiting-is w.latest-is w.busy-is w.clock-is w.end-is w.low-is ]),
     )
 
@@ -177,4 +204,5 @@ shape_of-arrivals c =
 
 pub returns : goal.returns
 returns c =
-    holds_last (given (goal.at.returns c).At-loop-low) (room (goal.at.returns c).At-loop-low) c.loop-low.invariant.1 (omega (arith, c.loop-low-test.false))
+    holds_last (given (goal.at.returns c).At-loop-low) (room (goal.at.returns c).At-loop-low) c.loop-low.invariant.1
+        (omega (arith, c.loop-low-test.false))

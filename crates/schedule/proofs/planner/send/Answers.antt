@@ -35,7 +35,9 @@ loop-k-init c =
 pub raise-requires : goal.raise-requires
 raise-requires c =
     let near : (P : ℕ) → c.wide16.result * get_or c.args.row.now P 0 ≤ most_message_time =
-    λ P. rw c.wide16.ensures ((asked (goal.at.raise-requires c).At-loop-k).near c.loop-k.k P (search rules)) in record { task_bound = (search rules, search rules, search rules, (asked (goal.at.raise-requires c).At-loop-k).row_size); finish_le_most_finish = ((asked (goal.at.raise-requires c).At-loop-k).in_time, near) }
+    λ P. rw c.wide16.ensures ((asked (goal.at.raise-requires c).At-loop-k).near c.loop-k.k P (search rules)) in record
+        { task_bound = (search rules, search rules, search rules, (asked (goal.at.raise-requires c).At-loop-k).row_size);
+            finish_le_most_finish = ((asked (goal.at.raise-requires c).At-loop-k).in_time, near) }
 
 pub overflow_sub-waiting : goal.overflow_sub-waiting
 overflow_sub-waiting c =
@@ -47,7 +49,12 @@ pub loop-k-preserved : goal.loop-k-preserved
 loop-k-preserved c =
     let t = c.index-t.ensures in
     let v = c.loop-k.invariant in
-    let raised : Lifted c.index-t.result c.args.finish c.loop-k.latest c.if-latest-t.latest = elim c.if-latest-t.branch [ then-latest-t w ↦ lifted _ _ _ _ w.if-latest-t.true w.latest-is (omega (arith, t.1, v.latest_size, (asked (goal.at.loop-k-preserved c).At-loop-k).latest_size)) | else-latest-t w ↦ unlifted _ _ _ _ w.if-latest-t.false w.latest-is ] in
+    let raised : Lifted c.index-t.result c.args.finish c.loop-k.latest c.if-latest-t.latest = elim c.if-latest-t.branch [
+      then-latest-t w ↦
+          lifted _ _ _ _ w.if-latest-t.true w.latest-is
+              (omega (arith, t.1, v.latest_size, (asked (goal.at.loop-k-preserved c).At-loop-k).latest_size))
+      | else-latest-t w ↦ unlifted _ _ _ _ w.if-latest-t.false w.latest-is
+    ] in
     record {
       from_first = omega (arith, v.from_first);
       to_last = search rules;
@@ -56,7 +63,8 @@ loop-k-preserved c =
       latest_size = raised.size ∙ v.latest_size;
       sent = turn _ _ _ _ _ _ _ _ t.0 v.from_first _ _ _ _ _
           c.wide16.ensures v.sent c.raise.ensures raised
-          (asked (goal.at.loop-k-preserved c).At-loop-k).few_processors (omega (arith, t.1, v.waiting_size, (asked (goal.at.loop-k-preserved c).At-loop-k).waiting_size)) (
+          (asked (goal.at.loop-k-preserved c).At-loop-k).few_processors
+              (omega (arith, t.1, v.waiting_size, (asked (goal.at.loop-k-preserved c).At-loop-k).waiting_size)) (
             still_waits _ _ _ _ t.0 v.from_first _ c.args.waiting.now c.loop-k.waiting
             v.sent.waiting_at (asked (goal.at.loop-k-preserved c).At-loop-k).enough (search rules)
           );

@@ -39,7 +39,8 @@ module _ (first finish n : ℕ) (row to counts : List ℕ) where
         where
           go : (t ≡ T) ⊎ (t ≡ T → ⊥) → get_or after (16 * T + P) 0 ≡ max (get_or arrivals (16 * T + P) 0) (most (k + 1) (sent T P))
           go (inl q) =
-              omega (arith, s, rw q at (r.in_row P p), most_sent to first T k h (λ i. finish + get_or counts i 0 * get_or row P 0) (sym e ∙ q))
+              omega (arith, s, rw q at (r.in_row P p), most_sent to first T k h (λ i. finish + get_or counts i 0 * get_or row P 0)
+                  (sym e ∙ q))
           go (inr q) =
               let u = unraised n t finish (get_or counts k 0) row now after r few T P (omega arith) q in
               omega (arith, s, u, most_kept to first T k (λ i. finish + get_or counts i 0 * get_or row P 0) (λ z. q (e ∙ z)))
@@ -53,7 +54,8 @@ module _ (first finish n : ℕ) (row to counts : List ℕ) where
           go (inr q) = unraised n t finish (get_or counts k 0) row now after r few T P l q ∙ s
 
     -- all three
-    pub turn : (count : ℕ) (B B₁ : Inbox) (arrivals₂ latest₂ : List ℕ) → count ≡ get_or counts k 0 → Sent first k finish n row to counts B B₁
+    pub turn : (count : ℕ) (B B₁ : Inbox) (arrivals₂ latest₂ : List ℕ) → count ≡ get_or counts k 0 → Sent first k finish n row to
+        counts B B₁
         → Raised n t finish count row B₁.arrivals arrivals₂ → Lifted t finish B₁.latest latest₂
         → n ≤ 16 → t < length B₁.waiting → 1 ≤ get_or B₁.waiting t 0
         → Sent first (k + 1) finish n row to counts B (inbox arrivals₂ (set B₁.waiting t (get_or B₁.waiting t 0 - 1)) latest₂)
@@ -74,7 +76,8 @@ pub record Going (first last finish n : ℕ) (row to counts : List ℕ) (B B₁ 
   pub sent : Sent first k finish n row to counts B B₁
 
 abbrev pub invariant-loop-k : goal.invariant-loop-k
-invariant-loop-k l = Going l.first l.last l.finish l.n l.row l.to l.counts (inbox l.initial.arrivals l.initial.waiting l.initial.latest) (inbox l.arrivals l.waiting l.latest) l.k
+invariant-loop-k l = Going l.first l.last l.finish l.n l.row l.to l.counts
+    (inbox l.initial.arrivals l.initial.waiting l.initial.latest) (inbox l.arrivals l.waiting l.latest) l.k
 
 abbrev pub decreases-loop-k : goal.decreases-loop-k
 decreases-loop-k l = l.last - l.k

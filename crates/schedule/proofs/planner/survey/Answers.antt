@@ -89,7 +89,17 @@ loop-p-init c =
 pub loop-p-preserved : goal.loop-p-preserved
 loop-p-preserved c =
     let g = c.loop-p.invariant in
-    (elim c.if-finish-clock.branch [ then-finish-clock w ↦ same _ _ _ _ _ _ _ _ _ _ w.free-is w.next-is w.count-is (idle _ _ _ _ _ _ _ g (search rules) (search rules) w.if-finish-clock.true) | else-finish-clock+then-finish-next w ↦ same _ _ _ _ _ _ _ _ _ _ w.free-is w.next-is w.count-is (sooner _ _ _ _ _ _ _ g (search rules) (search rules) w.if-finish-clock.false w.if-finish-next.true) | else-finish-clock+else-finish-next w ↦ same _ _ _ _ _ _ _ _ _ _ w.free-is w.next-is w.count-is (later _ _ _ _ _ _ _ g (search rules) (search rules) w.if-finish-clock.false w.if-finish-next.false) ])
+    (elim c.if-finish-clock.branch [
+      then-finish-clock w ↦
+          same _ _ _ _ _ _ _ _ _ _ w.free-is w.next-is w.count-is
+              (idle _ _ _ _ _ _ _ g (search rules) (search rules) w.if-finish-clock.true)
+      | else-finish-clock+then-finish-next w ↦
+          same _ _ _ _ _ _ _ _ _ _ w.free-is w.next-is w.count-is
+              (sooner _ _ _ _ _ _ _ g (search rules) (search rules) w.if-finish-clock.false w.if-finish-next.true)
+      | else-finish-clock+else-finish-next w ↦
+          same _ _ _ _ _ _ _ _ _ _ w.free-is w.next-is w.count-is
+              (later _ _ _ _ _ _ _ g (search rules) (search rules) w.if-finish-clock.false w.if-finish-next.false)
+    ])
 
 pub returns : goal.returns
 returns c =

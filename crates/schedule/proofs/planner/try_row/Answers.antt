@@ -29,8 +29,10 @@ returns-then-arrival-clock c =
 
 pub loop-i-preserved : goal.loop-i-preserved
 loop-i-preserved c =
-    (elim c.if-arrival-best.branch [ then-arrival-best w ↦ sooner _ _ _ _ _ _ _ refl (search rules) _ _ _ c.loop-i.invariant.1 c.loop-i.invariant.2
-    c.if-arrival-clock.false (omega (arith, w.if-arrival-best.true)) w.best-is | else-arrival-best w ↦ later _ _ _ _ _ _ _ refl (search rules) _ _ _ c.loop-i.invariant.1 c.loop-i.invariant.2
+    (elim c.if-arrival-best.branch
+        [ then-arrival-best w ↦ sooner _ _ _ _ _ _ _ refl (search rules) _ _ _ c.loop-i.invariant.1 c.loop-i.invariant.2
+    c.if-arrival-clock.false (omega (arith, w.if-arrival-best.true)) w.best-is | else-arrival-best w ↦ later _ _ _ _ _ _ _ refl
+        (search rules) _ _ _ c.loop-i.invariant.1 c.loop-i.invariant.2
     c.if-arrival-clock.false (omega (arith, w.if-arrival-best.false)) w.best-is ])
 
 pub returns : goal.returns

@@ -13,7 +13,8 @@ use Rattle.schedule.specs.SmallPass.{Sources, Walkable}
 use Rattle.schedule.specs.Laws.Planner.SearchSteps.{row_by_late, row_by_none, search_from, from_none, from_ended}
 use Rattle.schedule.specs.Laws.Planner.SearchSteps.{from_same, from_waits, from_unfinished, from_tried, from_stopped}
 use Rattle.schedule.proofs.small.choose.Goals as goal
-use Rattle.schedule.proofs.small.choose.Goals.{else-waiting-t-eq0, then-waiting-t-eq0+else-scratch-t, then-waiting-t-eq0+then-scratch-t+else-best-clock}
+use Rattle.schedule.proofs.small.choose.Goals.{else-waiting-t-eq0, then-waiting-t-eq0+else-scratch-t}
+use Rattle.schedule.proofs.small.choose.Goals.{then-waiting-t-eq0+then-scratch-t+else-best-clock}
 
 -- task t waits for nothing and what it waited for has finished; k is the first edge into it
 walkable : (S : Sources) (next first waiting : List ℕ) (clock m t k : ℕ)
@@ -49,9 +50,12 @@ returns-then-best-clock c =
 pub loop-t-preserved : goal.loop-t-preserved
 loop-t-preserved c =
     let v = c.loop-t.invariant in
-    (elim c.if-waiting-t-eq0.branch [ then-waiting-t-eq0+then-scratch-t+else-best-clock w ↦ from_same _ _ _ _ _ _ _ _ _ _ w.best-is (search rules) w.if-best-clock.false
-    (from_tried _ _ _ _ _ _ _ _ _ (search rules) v.2 w.if-waiting-t-eq0.true w.if-scratch-t.true _ w.try_task-best.ensures) | then-waiting-t-eq0+else-scratch-t w ↦ from_same _ _ _ _ _ _ _ _ _ _ w.best-is (search rules) v.1
-    (from_unfinished _ _ _ _ _ _ _ _ _ (search rules) v.2 w.if-waiting-t-eq0.true w.if-scratch-t.false) | else-waiting-t-eq0 w ↦ from_same _ _ _ _ _ _ _ _ _ _ w.best-is (search rules) v.1
+    (elim c.if-waiting-t-eq0.branch
+        [ then-waiting-t-eq0+then-scratch-t+else-best-clock w ↦ from_same _ _ _ _ _ _ _ _ _ _ w.best-is (search rules) w.if-best-clock.false
+    (from_tried _ _ _ _ _ _ _ _ _ (search rules) v.2 w.if-waiting-t-eq0.true w.if-scratch-t.true _ w.try_task-best.ensures) |
+        then-waiting-t-eq0+else-scratch-t w ↦ from_same _ _ _ _ _ _ _ _ _ _ w.best-is (search rules) v.1
+    (from_unfinished _ _ _ _ _ _ _ _ _ (search rules) v.2 w.if-waiting-t-eq0.true w.if-scratch-t.false) | else-waiting-t-eq0 w
+        ↦ from_same _ _ _ _ _ _ _ _ _ _ w.best-is (search rules) v.1
     (from_waits _ _ _ _ _ _ _ _ _ (search rules) v.2 w.if-waiting-t-eq0.false) ])
 
 pub returns : goal.returns

@@ -41,13 +41,21 @@ sent-bundle-requires c =
 
 pub is_late-requires : goal.is_late-requires
 is_late-requires c =
-    let K = known_into _ _ _ _ (walkable (goal.at.is_late-requires c).At-loop-k) _ c.loop-k.invariant c.loop-k-test.true in record { row_len = (sent_row (held (goal.at.is_late-requires c).At-loop-k) _ _ _ _ c.sent-bundle.ensures.finish_value c.sent-bundle.ensures.messages_value c.sent-bundle.ensures.row_value K, c.requires.count_in_bounds.0, c.requires.count_in_bounds.1); finish_le_most_finish = sent_in_time (held (goal.at.is_late-requires c).At-loop-k) _ _ _ _ c.sent-bundle.ensures.finish_value c.sent-bundle.ensures.messages_value c.sent-bundle.ensures.row_value K }
+    let K = known_into _ _ _ _ (walkable (goal.at.is_late-requires c).At-loop-k) _ c.loop-k.invariant c.loop-k-test.true in
+    record {
+      row_len = (sent_row (held (goal.at.is_late-requires c).At-loop-k) _ _ _ _ c.sent-bundle.ensures.finish_value
+          c.sent-bundle.ensures.messages_value c.sent-bundle.ensures.row_value K, c.requires.count_in_bounds.0,
+              c.requires.count_in_bounds.1);
+      finish_le_most_finish = sent_in_time (held (goal.at.is_late-requires c).At-loop-k) _ _ _ _ c.sent-bundle.ensures.finish_value
+          c.sent-bundle.ensures.messages_value c.sent-bundle.ensures.row_value K;
+    }
 
 pub returns-then-is_late : goal.returns-then-is_late
 returns-then-is_late c =
     λ _. beaten _ _ _ _ _ _ c.sent-bundle.result.row c.args.free.now _
     c.loop-k.invariant c.loop-k-test.true
-    (sent_at_lem (held (goal.at.returns-then-is_late c).At-loop-k) _ _ _ _ c.sent-bundle.ensures.finish_value c.sent-bundle.ensures.messages_value c.sent-bundle.ensures.row_value) (c.is_late.ensures c.if-is_late.true)
+    (sent_at_lem (held (goal.at.returns-then-is_late c).At-loop-k) _ _ _ _ c.sent-bundle.ensures.finish_value
+        c.sent-bundle.ensures.messages_value c.sent-bundle.ensures.row_value) (c.is_late.ensures c.if-is_late.true)
 
 pub loop-k-smaller : goal.loop-k-smaller
 loop-k-smaller c =

@@ -25,7 +25,13 @@ looked {busy = busy} {clock = clock} surveyed e next found = record {
 
 pub choose-pair-requires : goal.choose-pair-requires
 choose-pair-requires c =
-    let surveyed = c.survey-moment.ensures in record { clock_bound = c.requires.clock_bound; first_len = (c.requires.first_len.0, c.requires.first_len.2, c.requires.first_len.3); count_in_bounds = (omega (arith, surveyed.few, c.requires.clock_bound.3, c.survey-moment.auto.free), free_below _ _ _ _ _ surveyed); by_index = c.requires.by_index }
+    let surveyed = c.survey-moment.ensures in
+    record {
+      clock_bound = c.requires.clock_bound;
+      first_len = (c.requires.first_len.0, c.requires.first_len.2, c.requires.first_len.3);
+      count_in_bounds = (omega (arith, surveyed.few, c.requires.clock_bound.3, c.survey-moment.auto.free), free_below _ _ _ _ _ surveyed);
+      by_index = c.requires.by_index;
+    }
 
 pub returns : goal.returns
 returns c =

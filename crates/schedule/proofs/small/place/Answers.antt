@@ -48,7 +48,11 @@ module _ {pair : Pair} {first last low m : ℕ} {to starts processors busy waiti
 
 pub put-requires : goal.put-requires
 put-requires c =
-    let asked = c.requires in record { task_in_bounds = (asked.has_start, asked.has_processor, waiting_room asked); processor_in_bounds = (omega (arith, asked.processor_below, asked.busy_size), omega (arith, asked.processor_below)) }
+    let asked = c.requires in
+    record {
+      task_in_bounds = (asked.has_start, asked.has_processor, waiting_room asked);
+      processor_in_bounds = (omega (arith, asked.processor_below, asked.busy_size), omega (arith, asked.processor_below));
+    }
 
 pub tell-requires : goal.tell-requires
 tell-requires c =
@@ -66,4 +70,5 @@ shape_of-scratch c =
 
 pub returns : goal.returns
 returns c =
-    together c.requires c.put.ensures.waiting_after c.put.ensures.starts_after c.put.ensures.processors_after c.put.ensures.busy_after c.tell.ensures c.skip.ensures
+    together c.requires c.put.ensures.waiting_after c.put.ensures.starts_after c.put.ensures.processors_after c.put.ensures.busy_after
+        c.tell.ensures c.skip.ensures

@@ -21,7 +21,8 @@ use Rattle.schedule.specs.Laws.Planner.WithoutTable.{Following, follows_first, f
 use Rattle.schedule.specs.Laws.Planner.WithoutTable.{clock_low, rounds_low, to_look, task_low, finish_low, to_enter}
 use Rattle.schedule.specs.Laws.Rows.Lifted.{later, not_later}
 use Rattle.schedule.proofs.small.run.Goals as goal
-use Rattle.schedule.proofs.small.run.Goals.{At-loop-low, In-loop-low, else-pair-moment, then-pair-moment+else-end-done, then-pair-moment+then-end-done}
+use Rattle.schedule.proofs.small.run.Goals.{At-loop-low, In-loop-low, else-pair-moment, then-pair-moment+else-end-done}
+use Rattle.schedule.proofs.small.run.Goals.{then-pair-moment+then-end-done}
 
 -- ---- in plain numbers
 
@@ -106,7 +107,17 @@ slice_bounds-look-end-in-loop-low-3 c =
 
 pub look-choice-requires : goal.look-choice-requires
 look-choice-requires c =
-    let Y = c.loop-low.invariant in record { clock_bound = (clock_low (given (goal.at.look-choice-requires c).At-loop-low) (room (goal.at.look-choice-requires c).At-loop-low) Y, le_of_lt (remain (goal.at.look-choice-requires c).In-loop-low), (given (goal.at.look-choice-requires c).At-loop-low).few_tasks, (given (goal.at.look-choice-requires c).At-loop-low).few_processors); first_len = ((edge_lists (goal.at.look-choice-requires c).At-loop-low).first_size, Y.inner.busy_size, Y.inner.waiting_size, omega (arith, Y.scratch_size, (room (goal.at.look-choice-requires c).At-loop-low).for_scratch)); by_index = to_look (given (goal.at.look-choice-requires c).At-loop-low) (room (goal.at.look-choice-requires c).At-loop-low) Y {before = replicate 1024 0} (edge_lists (goal.at.look-choice-requires c).At-loop-low) }
+    let Y = c.loop-low.invariant in
+    record {
+      clock_bound = (clock_low (given (goal.at.look-choice-requires c).At-loop-low) (room (goal.at.look-choice-requires c).At-loop-low)
+          Y, le_of_lt (remain (goal.at.look-choice-requires c).In-loop-low),
+              (given (goal.at.look-choice-requires c).At-loop-low).few_tasks,
+                  (given (goal.at.look-choice-requires c).At-loop-low).few_processors);
+      first_len = ((edge_lists (goal.at.look-choice-requires c).At-loop-low).first_size, Y.inner.busy_size, Y.inner.waiting_size, omega
+          (arith, Y.scratch_size, (room (goal.at.look-choice-requires c).At-loop-low).for_scratch));
+      by_index = to_look (given (goal.at.look-choice-requires c).At-loop-low) (room (goal.at.look-choice-requires c).At-loop-low) Y
+          {before = replicate 1024 0} (edge_lists (goal.at.look-choice-requires c).At-loop-low);
+    }
 
 pub slice_bounds-finish-end : goal.slice_bounds-finish-end
 slice_bounds-finish-end c =
@@ -135,27 +146,42 @@ slice_bounds-place-end-then-pair-moment c =
 pub place-low-requires : goal.place-low-requires
 place-low-requires c =
     asked_of c.finish-done.ensures.first_value c.finish-done.ensures.last_value
-    (to_enter (given (goal.at.place-low-requires c).At-loop-low) (room (goal.at.place-low-requires c).At-loop-low) c.loop-low.invariant c.look-choice.ensures (remain (goal.at.place-low-requires c).In-loop-low) (omega (arith, c.if-pair-moment.true)) (edge_runs (goal.at.place-low-requires c).At-loop-low) c.finish-done.ensures.finish_value)
+    (to_enter (given (goal.at.place-low-requires c).At-loop-low) (room (goal.at.place-low-requires c).At-loop-low) c.loop-low.invariant
+        c.look-choice.ensures (remain (goal.at.place-low-requires c).In-loop-low) (omega (arith, c.if-pair-moment.true))
+            (edge_runs (goal.at.place-low-requires c).At-loop-low) c.finish-done.ensures.finish_value)
 
 pub overflow_add-rounds : goal.overflow_add-rounds
 overflow_add-rounds c =
-    Fits-below tt (rounds_small _ _ (rounds_low (given (goal.at.overflow_add-rounds c).At-loop-low) (room (goal.at.overflow_add-rounds c).At-loop-low) c.loop-low.invariant (remain (goal.at.overflow_add-rounds c).In-loop-low)) (given (goal.at.overflow_add-rounds c).At-loop-low).few_tasks)
+    Fits-below tt (rounds_small _ _
+        (rounds_low (given (goal.at.overflow_add-rounds c).At-loop-low) (room (goal.at.overflow_add-rounds c).At-loop-low)
+            c.loop-low.invariant (remain (goal.at.overflow_add-rounds c).In-loop-low))
+                (given (goal.at.overflow_add-rounds c).At-loop-low).few_tasks)
 
 pub loop-low-smaller : goal.loop-low-smaller
 loop-low-smaller c =
-    rounds_left _ _ (rounds_low (given (goal.at.loop-low-smaller c).At-loop-low) (room (goal.at.loop-low-smaller c).At-loop-low) c.loop-low.invariant (remain (goal.at.loop-low-smaller c).In-loop-low))
+    rounds_left _ _ (rounds_low (given (goal.at.loop-low-smaller c).At-loop-low) (room (goal.at.loop-low-smaller c).At-loop-low)
+        c.loop-low.invariant (remain (goal.at.loop-low-smaller c).In-loop-low))
 
 pub loop-low-preserved : goal.loop-low-preserved
 loop-low-preserved c =
     let found = c.look-choice.ensures in
     let runs = edge_runs (goal.at.loop-low-preserved c).At-loop-low in
     (elim c.if-pair-moment.branch [ then-pair-moment+then-end-done w ↦ carried
-    (follows_placed (given (goal.at.loop-low-preserved c).At-loop-low) (room (goal.at.loop-low-preserved c).At-loop-low) c.loop-low.invariant found (remain (goal.at.loop-low-preserved c).In-loop-low) (omega (arith, w.if-pair-moment.true)) runs w.finish-done.ensures.finish_value
-    (entered_of w.finish-done.ensures.first_value w.finish-done.ensures.last_value w.place-low.ensures) (later _ _ w.if-end-done.true) w.place-low.auto.waiting w.place-low.auto.scratch)
-    w.starts-is w.processors-is w.scratch-is w.waiting-is w.busy-is w.clock-is w.end-is w.low-is | then-pair-moment+else-end-done w ↦ carried
-    (follows_placed (given (goal.at.loop-low-preserved c).At-loop-low) (room (goal.at.loop-low-preserved c).At-loop-low) c.loop-low.invariant found (remain (goal.at.loop-low-preserved c).In-loop-low) (omega (arith, w.if-pair-moment.true)) runs w.finish-done.ensures.finish_value
-    (entered_of w.finish-done.ensures.first_value w.finish-done.ensures.last_value w.place-low.ensures) (not_later _ _ w.if-end-done.false) w.place-low.auto.waiting w.place-low.auto.scratch)
-    w.starts-is w.processors-is w.scratch-is w.waiting-is w.busy-is w.clock-is w.end-is w.low-is | else-pair-moment w ↦ carried (follows_moved (given (goal.at.loop-low-preserved c).At-loop-low) (room (goal.at.loop-low-preserved c).At-loop-low) c.loop-low.invariant found (remain (goal.at.loop-low-preserved c).In-loop-low) (omega (arith, w.if-pair-moment.false)))
+    (follows_placed (given (goal.at.loop-low-preserved c).At-loop-low) (room (goal.at.loop-low-preserved c).At-loop-low)
+        c.loop-low.invariant found (remain (goal.at.loop-low-preserved c).In-loop-low) (omega (arith, w.if-pair-moment.true)) runs
+            w.finish-done.ensures.finish_value
+    (entered_of w.finish-done.ensures.first_value w.finish-done.ensures.last_value w.place-low.ensures) (later _ _ w.if-end-done.true)
+        w.place-low.auto.waiting w.place-low.auto.scratch)
+    w.starts-is w.processors-is w.scratch-is w.waiting-is w.busy-is w.clock-is w.end-is w.low-is | then-pair-moment+else-end-done w
+        ↦ carried
+    (follows_placed (given (goal.at.loop-low-preserved c).At-loop-low) (room (goal.at.loop-low-preserved c).At-loop-low)
+        c.loop-low.invariant found (remain (goal.at.loop-low-preserved c).In-loop-low) (omega (arith, w.if-pair-moment.true)) runs
+            w.finish-done.ensures.finish_value
+    (entered_of w.finish-done.ensures.first_value w.finish-done.ensures.last_value w.place-low.ensures)
+        (not_later _ _ w.if-end-done.false) w.place-low.auto.waiting w.place-low.auto.scratch)
+    w.starts-is w.processors-is w.scratch-is w.waiting-is w.busy-is w.clock-is w.end-is w.low-is | else-pair-moment w ↦ carried
+        (follows_moved (given (goal.at.loop-low-preserved c).At-loop-low) (room (goal.at.loop-low-preserved c).At-loop-low)
+            c.loop-low.invariant found (remain (goal.at.loop-low-preserved c).In-loop-low) (omega (arith, w.if-pair-moment.false)))
     w.starts-is w.processors-is w.scratch-is w.waiting-is w.busy-is w.clock-is w.end-is w.low-is ])
 
 pub shape_of-starts : goal.shape_of-starts
@@ -172,4 +198,5 @@ shape_of-scratch c =
 
 pub returns : goal.returns
 returns c =
-    follows_last (given (goal.at.returns c).At-loop-low) (room (goal.at.returns c).At-loop-low) c.loop-low.invariant (omega (arith, c.loop-low-test.false))
+    follows_last (given (goal.at.returns c).At-loop-low) (room (goal.at.returns c).At-loop-low) c.loop-low.invariant
+        (omega (arith, c.loop-low-test.false))

@@ -7,7 +7,8 @@ use Rattle.schedule.proofs.small.run.Given as goal
 
 -- ---- the invariant
 abbrev pub invariant-loop-low : goal.invariant-loop-low
-invariant-loop-low l = Following (in_number_order l.n l.tasks l.edges l.durations l.from l.to l.counts l.costs) l.initial.starts l.initial.processors l.initial.scratch
+invariant-loop-low l = Following (in_number_order l.n l.tasks l.edges l.durations l.from l.to l.counts l.costs) l.initial.starts
+    l.initial.processors l.initial.scratch
     (sheet l.starts l.processors l.busy l.waiting l.scratch) l.clock l.end l.low l.rounds
 
 abbrev pub decreases-loop-low : goal.decreases-loop-low

@@ -30,4 +30,9 @@ pub returns : goal.returns
 returns c =
     let K = c.requires in
     let e = c.index-s.ensures.0 in
-    let d = c.index-p.ensures.0 in record { finish_value = finish_there _ _ _ _ _ _ K _ _ e d; messages_value = c.wide16.ensures; row_value = row_there _ _ _ _ _ _ K _ _ e d }
+    let d = c.index-p.ensures.0 in
+    record {
+      finish_value = finish_there _ _ _ _ _ _ K _ _ e d;
+      messages_value = c.wide16.ensures;
+      row_value = row_there _ _ _ _ _ _ K _ _ e d;
+    }

@@ -59,7 +59,12 @@ pub loop-k-preserved : goal.loop-k-preserved
 loop-k-preserved c =
     let t = c.index-t.ensures in
     let v = c.loop-k.invariant in
-    let raised : Lifted c.index-t.result c.args.finish c.loop-k.scratch c.if-scratch-t.scratch = elim c.if-scratch-t.branch [ then-scratch-t w ↦ lifted _ _ _ _ w.if-scratch-t.true w.scratch-is (omega (arith, t.1, v.scratch_size, (asked (goal.at.loop-k-preserved c).At-loop-k).scratch_room)) | else-scratch-t w ↦ unlifted _ _ _ _ w.if-scratch-t.false w.scratch-is ] in
+    let raised : Lifted c.index-t.result c.args.finish c.loop-k.scratch c.if-scratch-t.scratch = elim c.if-scratch-t.branch [
+      then-scratch-t w ↦
+          lifted _ _ _ _ w.if-scratch-t.true w.scratch-is
+              (omega (arith, t.1, v.scratch_size, (asked (goal.at.loop-k-preserved c).At-loop-k).scratch_room))
+      | else-scratch-t w ↦ unlifted _ _ _ _ w.if-scratch-t.false w.scratch-is
+    ] in
     record {
       from_first = omega (arith, v.from_first);
       to_last = search rules;

@@ -30,7 +30,10 @@ few n count free h low i k = omega (arith, low i k)
 
 pub is_beaten-requires : goal.is_beaten-requires
 is_beaten-requires c =
-    record { walkable = c.requires.n_bound.2; count_in_bounds = (c.requires.count_in_bounds.0, few _ _ c.args.free.now c.requires.n_bound.0 c.requires.count_in_bounds.1) }
+    record {
+      walkable = c.requires.n_bound.2;
+      count_in_bounds = (c.requires.count_in_bounds.0, few _ _ c.args.free.now c.requires.n_bound.0 c.requires.count_in_bounds.1);
+    }
 
 pub returns-then-is_beaten : goal.returns-then-is_beaten
 returns-then-is_beaten c =

@@ -64,7 +64,13 @@ sent-bundle-requires c =
 
 pub raise-requires : goal.raise-requires
 raise-requires c =
-    let K = known_into _ _ _ _ (walkable (goal.at.raise-requires c).At-loop-edge) _ c.loop-edge.invariant.into c.loop-edge-test.true in record { task_bound = (search rules, search rules, search rules, sent_row (held (goal.at.raise-requires c).At-loop-edge) _ _ _ _ c.sent-bundle.ensures.finish_value c.sent-bundle.ensures.messages_value c.sent-bundle.ensures.row_value K); finish_le_most_finish = sent_in_time (held (goal.at.raise-requires c).At-loop-edge) _ _ _ _ c.sent-bundle.ensures.finish_value c.sent-bundle.ensures.messages_value c.sent-bundle.ensures.row_value K }
+    let K = known_into _ _ _ _ (walkable (goal.at.raise-requires c).At-loop-edge) _ c.loop-edge.invariant.into c.loop-edge-test.true in
+    record {
+      task_bound = (search rules, search rules, search rules, sent_row (held (goal.at.raise-requires c).At-loop-edge) _ _ _ _
+          c.sent-bundle.ensures.finish_value c.sent-bundle.ensures.messages_value c.sent-bundle.ensures.row_value K);
+      finish_le_most_finish = sent_in_time (held (goal.at.raise-requires c).At-loop-edge) _ _ _ _ c.sent-bundle.ensures.finish_value
+          c.sent-bundle.ensures.messages_value c.sent-bundle.ensures.row_value K;
+    }
 
 pub loop-edge-smaller : goal.loop-edge-smaller
 loop-edge-smaller c =
@@ -74,7 +80,8 @@ loop-edge-smaller c =
 pub loop-edge-preserved : goal.loop-edge-preserved
 loop-edge-preserved c =
     turn _ _ _ _ _ (walkable (goal.at.loop-edge-preserved c).At-loop-edge) _ _ _ _ _ _ _ c.loop-edge.invariant c.loop-edge-test.true
-    (sent_at_lem (held (goal.at.loop-edge-preserved c).At-loop-edge) _ _ _ _ c.sent-bundle.ensures.finish_value c.sent-bundle.ensures.messages_value c.sent-bundle.ensures.row_value) c.raise.ensures c.raise.auto.arrivals c.index16-edge.ensures
+    (sent_at_lem (held (goal.at.loop-edge-preserved c).At-loop-edge) _ _ _ _ c.sent-bundle.ensures.finish_value
+        c.sent-bundle.ensures.messages_value c.sent-bundle.ensures.row_value) c.raise.ensures c.raise.auto.arrivals c.index16-edge.ensures
 
 pub returns : goal.returns
 returns c =
