@@ -1,6 +1,8 @@
 // Reads a job file from standard input and prints the page of its plan for the cabinet door (document 02 §3).
 //
 // The first 16,384 bytes settle what is printed (`enough` in specs/Printed.antt): no more are read.
+#![tactic(auto)]
+
 ghost use Rattle.std.specs.Prelude.{◌≡◌};
 ghost use Rattle.listing.specs.Listing.{listed};
 ghost use Rattle.page.specs.Printed.{print_call};
@@ -8,7 +10,6 @@ ghost use Rattle.page.specs.Pass.{length_in};
 
 use gantt::Drawn;
 use input::Came;
-use libc::STDOUT_FILENO;
 use schedule::Planned;
 
 // The length of the page that was drawn; 0 on a refusal.
@@ -35,17 +36,20 @@ fn answer(file: &[u8], out: &mut [u8; 12288]) -> usize
     length_in(gantt::draw(file, &starts, &processors, out))
 }
 
-fn main() {
+fn main(rt: HostRuntime) {
     let mut input = [0u8; 16384];
-    let came = input::read_all(&mut input);
-    let Came::Bytes(n) = came else {
-        os::fail(b"page: read");
-        return;
+    let came = input::read_all(&mut rt.stdin(), &mut input);
+    let n = match came {
+        Came::Bytes(n) => n,
+        Came::Failed(error) => {
+            let _ = eprintln!(rt; "page: read: {error}");
+            return;
+        }
     };
     let mut output = [0u8; 12288];
     let length = answer(&input[..n], &mut output);
-    let done = io::write_all(STDOUT_FILENO, &output[..length]);
-    if !done {
-        os::fail(b"page: write");
+    let done = rt.write_all(&output[..length]);
+    if let Err(error) = done {
+        let _ = eprintln!(rt; "page: write: {error}");
     }
 }

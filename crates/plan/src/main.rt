@@ -1,12 +1,13 @@
 // Reads a job file from standard input and prints its plan (document 01, "Ticks worked out").
 //
 // The first 16,384 bytes settle what is printed (`enough` in specs/Input.antt): no more are read.
+#![tactic(auto)]
+
 ghost use Rattle.std.specs.Prelude.{◌≡◌};
 ghost use Rattle.listing.specs.Listing.{listed, listing_call};
 
 use input::Came;
 use job::Verdict;
-use libc::STDOUT_FILENO;
 
 // Puts what is printed for a job file at the front of `out`, a refusal's line or the listing of its plan, and answers its length.
 fn answer(file: &[u8], out: &mut [u8; 12288]) -> usize
@@ -20,17 +21,20 @@ fn answer(file: &[u8], out: &mut [u8; 12288]) -> usize
     listing::write(file, out)
 }
 
-fn main() {
+fn main(rt: HostRuntime) {
     let mut input = [0u8; 16384];
-    let came = input::read_all(&mut input);
-    let Came::Bytes(n) = came else {
-        os::fail(b"plan: read");
-        return;
+    let came = input::read_all(&mut rt.stdin(), &mut input);
+    let n = match came {
+        Came::Bytes(n) => n,
+        Came::Failed(error) => {
+            let _ = eprintln!(rt; "plan: read: {error}");
+            return;
+        }
     };
     let mut output = [0u8; 12288];
     let length = answer(&input[..n], &mut output);
-    let done = io::write_all(STDOUT_FILENO, &output[..length]);
-    if !done {
-        os::fail(b"plan: write");
+    let done = rt.write_all(&output[..length]);
+    if let Err(error) = done {
+        let _ = eprintln!(rt; "plan: write: {error}");
     }
 }

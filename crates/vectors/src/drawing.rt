@@ -4,59 +4,68 @@
 //   0  length of the buffer (2)    2  fill of the buffer    3  the plan and the file, as in a case of the checker
 use crate::{checking, number, show};
 use gantt::Drawn;
+use std::io::{self, Write};
 
 // The bytes past the page.
-fn show_past(bytes: &[u8]) {
-    show::text(b" past it");
-    show::byte_digest(bytes);
-    show::text(b"\n");
+fn show_past<W: Write>(sink: &mut W, bytes: &[u8]) -> io::Result<()> {
+    show::text(sink, b" past it")?;
+    show::byte_digest(sink, bytes)?;
+    show::text(sink, b"\n")
 }
 
-fn show_drawn(drawn: Drawn, out: &[u8]) {
+fn show_drawn<W: Write>(sink: &mut W, drawn: Drawn, out: &[u8]) -> io::Result<()> {
     match drawn {
         Drawn::Length(length) => {
-            show::text(show::first(out, length));
-            show::text(b"page of");
-            show::word(number::wide(length));
-            show_past(show::rest(out, length));
+            show::text(sink, show::first(out, length))?;
+            show::text(sink, b"page of")?;
+            show::word(sink, number::wide(length))?;
+            show_past(sink, show::rest(out, length))?;
         }
         Drawn::Refused(number) => {
-            show::text(b"page refused");
-            show::word(number::wide8(number));
-            show_past(out);
+            show::text(sink, b"page refused")?;
+            show::word(sink, number::wide8(number))?;
+            show_past(sink, out)?;
         }
     }
+    Ok(())
 }
 
-fn draw(file: &[u8], starts: &[u32], processors: &[u8], out: &mut [u8]) {
+fn draw<W: Write>(
+    sink: &mut W,
+    file: &[u8],
+    starts: &[u32],
+    processors: &[u8],
+    out: &mut [u8],
+) -> io::Result<()> {
     let drawn = gantt::draw(file, starts, processors, out);
-    show_drawn(drawn, out);
+    show_drawn(sink, drawn, out)
 }
 
-pub fn case(body: &[u8]) {
+pub fn case<W: Write>(sink: &mut W, body: &[u8]) -> io::Result<()> {
     if body.len() < 7 {
-        return;
+        return Ok(());
     }
     let room = number::two(body, 0) as usize;
     let starts = number::two(body, 3) as usize;
     if 1200 < room {
-        return;
+        return Ok(());
     }
     if 300 < starts {
-        return;
+        return Ok(());
     }
     let at = 7 + 4 * starts;
     let file = at + number::two(body, 5) as usize;
     if body.len() < file {
-        return;
+        return Ok(());
     }
     let mut times = [0u32; 300];
     checking::put_starts(&body[3..], starts, &mut times);
     let mut out = [body[2]; 1200];
     draw(
+        sink,
         &body[file..],
         &times[0..starts],
         &body[at..file],
         &mut out[0..room],
-    );
+    )
 }

@@ -12,6 +12,8 @@
 //   c  the checker
 //
 // The body of 'r' is a file; the others' are in the files that run them.
+#![tactic(auto)]
+
 mod checking;
 mod drawing;
 mod number;
@@ -22,84 +24,100 @@ mod station;
 mod text;
 mod writing;
 
-use libc::STDIN_FILENO;
+use std::io::{self, BufReader, BufWriter, ErrorKind, Read, Write};
 
-fn run_job(what: u8, body: &[u8]) {
+fn run_job<W: Write>(sink: &mut W, what: u8, body: &[u8]) -> io::Result<()> {
     if what == b'r' {
-        reading::case(body);
+        reading::case(sink, body)?;
     }
     if what == b'w' {
-        writing::case(body);
+        writing::case(sink, body)?;
     }
     if what == b'v' {
-        writing::wired_case(body);
+        writing::wired_case(sink, body)?;
     }
     if what == b'u' {
-        writing::result_case(body);
+        writing::result_case(sink, body)?;
     }
     if what == b't' {
-        text::case(body);
+        text::case(sink, body)?;
     }
+    Ok(())
 }
 
-fn run_plan(what: u8, body: &[u8]) {
+fn run_plan<W: Write>(sink: &mut W, what: u8, body: &[u8]) -> io::Result<()> {
     if what == b'p' {
-        planning::case(body);
+        planning::case(sink, body)?;
     }
     if what == b'h' {
-        planning::weight_case(body);
+        planning::weight_case(sink, body)?;
     }
     if what == b'c' {
-        checking::case(body);
+        checking::case(sink, body)?;
     }
     if what == b'd' {
-        drawing::case(body);
+        drawing::case(sink, body)?;
     }
+    Ok(())
 }
 
-fn run_station(what: u8, body: &[u8]) {
+fn run_station<W: Write>(sink: &mut W, what: u8, body: &[u8]) -> io::Result<()> {
     if what == b's' {
-        station::plan_case(body);
+        station::plan_case(sink, body)?;
     }
     if what == b'b' {
-        station::check_case(body);
+        station::check_case(sink, body)?;
     }
     if what == b'g' {
-        station::page_case(body);
+        station::page_case(sink, body)?;
+    }
+    Ok(())
+}
+
+// Fills the buffer, and answers whether the input had as many bytes.
+fn fill_all<R: Read>(source: &mut R, buffer: &mut [u8]) -> io::Result<bool> {
+    match source.read_exact(buffer) {
+        Ok(()) => Ok(true),
+        Err(error) if error.kind() == ErrorKind::UnexpectedEof => Ok(false),
+        Err(error) => Err(error),
     }
 }
 
 // Fills the first `length` places of the buffer, and answers whether the input had as many bytes.
-fn fill(buffer: &mut [u8], length: usize) -> bool {
+fn fill<R: Read>(source: &mut R, buffer: &mut [u8], length: usize) -> io::Result<bool> {
     if length <= buffer.len() {
-        io::read_full(STDIN_FILENO, &mut buffer[0..length]) == length
+        fill_all(source, &mut buffer[0..length])
     } else {
-        false
+        Ok(false)
     }
 }
 
 // Runs the next case, and answers whether there was one.
-fn next() -> bool {
+fn next<R: Read, W: Write>(source: &mut R, sink: &mut W) -> io::Result<bool> {
     let mut head = [0u8; 3];
-    let got = io::read_full(STDIN_FILENO, &mut head);
-    if got < 3 {
-        return false;
+    if !fill_all(source, &mut head)? {
+        return Ok(false);
     }
     let length = number::from_two(head[1], head[2]);
     let mut buffer = [0u8; 16384];
-    let is_whole = fill(&mut buffer, length);
+    let is_whole = fill(source, &mut buffer, length)?;
     if is_whole {
-        run_job(head[0], show::first(&buffer, length));
-        run_plan(head[0], show::first(&buffer, length));
-        run_station(head[0], show::first(&buffer, length));
+        run_job(sink, head[0], show::first(&buffer, length))?;
+        run_plan(sink, head[0], show::first(&buffer, length))?;
+        run_station(sink, head[0], show::first(&buffer, length))?;
     }
-    is_whole
+    Ok(is_whole)
 }
 
-// A loop has to end, and nothing says that the input does: the count of turns is one that no run uses up.
-fn main() {
-    let mut turns = u64::MAX;
-    while 0 < turns && next() {
-        turns -= 1;
+// Runs the cases up to the end of the input. A loop has to end, and nothing says that the input does: the count of turns is one that no
+// run uses up.
+fn main(rt: HostRuntime) -> io::Result<()> {
+    let mut source = BufReader::new(rt.alloc(), rt.stdin())?;
+    let mut sink = BufWriter::new(rt.alloc(), rt.stdout())?;
+    for _ in 0..u64::MAX {
+        if !next(&mut source, &mut sink)? {
+            break;
+        }
     }
+    sink.flush()
 }

@@ -9,115 +9,173 @@ ghost use Rattle.std.specs.Prelude.{◌≤◌, length};
 
 use crate::{checking, number, show};
 use schedule::{Covered, Planned};
+use std::io::{self, Write};
 
-fn show_planned(planned: Planned) {
+fn show_planned<W: Write>(sink: &mut W, planned: Planned) -> io::Result<()> {
     match planned {
         Planned::Plan(outcome) => {
-            show::word(number::wide(outcome.tasks));
-            show::word(number::wide32(outcome.end));
+            show::word(sink, number::wide(outcome.tasks))?;
+            show::word(sink, number::wide32(outcome.end))?;
         }
         Planned::Refused(number) => {
-            show::text(b" refused");
-            show::word(number::wide8(number));
+            show::text(sink, b" refused")?;
+            show::word(sink, number::wide8(number))?;
         }
     }
+    Ok(())
 }
 
-fn show_covered(covered: Covered) {
+fn show_covered<W: Write>(sink: &mut W, covered: Covered) -> io::Result<()> {
     match covered {
         Covered::Cover(figures) => {
-            show::word(number::wide32(figures.cover));
-            show::word(number::wide32(figures.least));
-            show::word(number::wide32(figures.dearest));
+            show::word(sink, number::wide32(figures.cover))?;
+            show::word(sink, number::wide32(figures.least))?;
+            show::word(sink, number::wide32(figures.dearest))?;
         }
         Covered::Refused(number) => {
-            show::text(b" refused");
-            show::word(number::wide8(number));
+            show::text(sink, b" refused")?;
+            show::word(sink, number::wide8(number))?;
         }
     }
+    Ok(())
 }
 
-fn show_slices(starts: &[u32], processors: &[u8], scratch: &[u32]) {
-    show::text(b" starts");
-    show::words(starts);
-    show::text(b" processors");
-    show::byte_words(processors);
-    show::text(b" scratch");
-    show::digest(scratch);
+fn show_slices<W: Write>(
+    sink: &mut W,
+    starts: &[u32],
+    processors: &[u8],
+    scratch: &[u32],
+) -> io::Result<()> {
+    show::text(sink, b" starts")?;
+    show::words(sink, starts)?;
+    show::text(sink, b" processors")?;
+    show::byte_words(sink, processors)?;
+    show::text(sink, b" scratch")?;
+    show::digest(sink, scratch)
 }
 
-fn plan(file: &[u8], starts: &mut [u32], processors: &mut [u8], scratch: &mut [u32]) {
-    show::text(b"plan");
-    show_planned(schedule::plan(file, starts, processors, scratch));
-    show_slices(starts, processors, scratch);
-    checking::check(file, starts, processors);
+fn plan<W: Write>(
+    sink: &mut W,
+    file: &[u8],
+    starts: &mut [u32],
+    processors: &mut [u8],
+    scratch: &mut [u32],
+) -> io::Result<()> {
+    show::text(sink, b"plan")?;
+    show_planned(sink, schedule::plan(file, starts, processors, scratch))?;
+    show_slices(sink, starts, processors, scratch)?;
+    checking::check(sink, file, starts, processors)
 }
 
-fn cover(file: &[u8], starts: &mut [u32], processors: &mut [u8], scratch: &mut [u32]) {
-    show::text(b"cover");
-    show_covered(schedule::cover(file, starts, processors, scratch));
-    show_slices(starts, processors, scratch);
-    checking::check(file, starts, processors);
+fn cover<W: Write>(
+    sink: &mut W,
+    file: &[u8],
+    starts: &mut [u32],
+    processors: &mut [u8],
+    scratch: &mut [u32],
+) -> io::Result<()> {
+    show::text(sink, b"cover")?;
+    show_covered(sink, schedule::cover(file, starts, processors, scratch))?;
+    show_slices(sink, starts, processors, scratch)?;
+    checking::check(sink, file, starts, processors)
 }
 
-fn small(file: &[u8], starts: &mut [u32], processors: &mut [u8], scratch: &mut [u32]) {
-    show::text(b"small");
-    show_planned(schedule::plan_small(file, starts, processors, scratch));
+fn small<W: Write>(
+    sink: &mut W,
+    file: &[u8],
+    starts: &mut [u32],
+    processors: &mut [u8],
+    scratch: &mut [u32],
+) -> io::Result<()> {
+    show::text(sink, b"small")?;
+    show_planned(
+        sink,
+        schedule::plan_small(file, starts, processors, scratch),
+    )?;
     let front = show::with_numbers(0, starts);
     let digest = show::with_bytes(front, processors);
-    show::word(show::with_numbers(digest, scratch));
-    show::text(b"\n");
+    show::word(sink, show::with_numbers(digest, scratch))?;
+    show::text(sink, b"\n")
 }
 
-fn plan_by_weight(file: &[u8], starts: &mut [u32], processors: &mut [u8], scratch: &mut [u32]) {
-    show::text(b"plan by weight");
-    show_planned(schedule::plan_by_weight(file, starts, processors, scratch));
-    show_slices(starts, processors, scratch);
-    checking::check(file, starts, processors);
+fn plan_by_weight<W: Write>(
+    sink: &mut W,
+    file: &[u8],
+    starts: &mut [u32],
+    processors: &mut [u8],
+    scratch: &mut [u32],
+) -> io::Result<()> {
+    show::text(sink, b"plan by weight")?;
+    show_planned(
+        sink,
+        schedule::plan_by_weight(file, starts, processors, scratch),
+    )?;
+    show_slices(sink, starts, processors, scratch)?;
+    checking::check(sink, file, starts, processors)
 }
 
-fn cover_by_weight(file: &[u8], starts: &mut [u32], processors: &mut [u8], scratch: &mut [u32]) {
-    show::text(b"cover by weight");
-    show_covered(schedule::cover_by_weight(file, starts, processors, scratch));
-    show_slices(starts, processors, scratch);
-    checking::check(file, starts, processors);
+fn cover_by_weight<W: Write>(
+    sink: &mut W,
+    file: &[u8],
+    starts: &mut [u32],
+    processors: &mut [u8],
+    scratch: &mut [u32],
+) -> io::Result<()> {
+    show::text(sink, b"cover by weight")?;
+    show_covered(
+        sink,
+        schedule::cover_by_weight(file, starts, processors, scratch),
+    )?;
+    show_slices(sink, starts, processors, scratch)?;
+    checking::check(sink, file, starts, processors)
 }
 
 // The planner (p), the cover call (c), the planner's small entry (s), or by weight the planner (w) and the cover call (v).
-fn call(entry: u8, file: &[u8], starts: &mut [u32], processors: &mut [u8], scratch: &mut [u32]) {
+fn call<W: Write>(
+    sink: &mut W,
+    entry: u8,
+    file: &[u8],
+    starts: &mut [u32],
+    processors: &mut [u8],
+    scratch: &mut [u32],
+) -> io::Result<()> {
     if entry == b'c' {
-        cover(file, starts, processors, scratch);
-        return;
+        return cover(sink, file, starts, processors, scratch);
     }
     if entry == b's' {
-        small(file, starts, processors, scratch);
-        return;
+        return small(sink, file, starts, processors, scratch);
     }
     if entry == b'w' {
-        plan_by_weight(file, starts, processors, scratch);
-        return;
+        return plan_by_weight(sink, file, starts, processors, scratch);
     }
     if entry == b'v' {
-        cover_by_weight(file, starts, processors, scratch);
-        return;
+        return cover_by_weight(sink, file, starts, processors, scratch);
     }
-    plan(file, starts, processors, scratch);
+    plan(sink, file, starts, processors, scratch)
 }
 
 // The call on slices of so many places that hold their fills.
-fn lend(entry: u8, body: &[u8], starts: usize, processors: usize, scratch: usize)
+fn lend<W: Write>(
+    sink: &mut W,
+    entry: u8,
+    body: &[u8],
+    starts: usize,
+    processors: usize,
+    scratch: usize,
+) -> io::Result<()>
     requires { (15 ≤ length body.now) × (starts ≤ 300) × (processors ≤ 300) × (scratch ≤ 4200) }
 {
     let mut times = [number::four(body, 6) as u32; 300];
     let mut places = [body[14]; 300];
     let mut arrivals = [number::four(body, 10) as u32; 4200];
     call(
+        sink,
         entry,
         &body[15..],
         &mut times[0..starts],
         &mut places[0..processors],
         &mut arrivals[0..scratch],
-    );
+    )
 }
 
 // The scratch of the small entry: it asks for 512 places where the planner asks for 4,096, so 3,584 places less where there are as many.
@@ -131,42 +189,48 @@ fn small_scratch(scratch: usize) -> usize
     scratch - 3584
 }
 
-fn lend_all(by_weight: bool, body: &[u8], starts: usize, processors: usize, scratch: usize)
+fn lend_all<W: Write>(
+    sink: &mut W,
+    by_weight: bool,
+    body: &[u8],
+    starts: usize,
+    processors: usize,
+    scratch: usize,
+) -> io::Result<()>
     requires { (15 ≤ length body.now) × (starts ≤ 300) × (processors ≤ 300) × (scratch ≤ 4200) }
 {
     if by_weight {
-        lend(b'w', body, starts, processors, scratch);
-        lend(b'v', body, starts, processors, scratch);
-        return;
+        lend(sink, b'w', body, starts, processors, scratch)?;
+        return lend(sink, b'v', body, starts, processors, scratch);
     }
-    lend(b'p', body, starts, processors, scratch);
-    lend(b'c', body, starts, processors, scratch);
-    lend(b's', body, starts, processors, small_scratch(scratch));
+    lend(sink, b'p', body, starts, processors, scratch)?;
+    lend(sink, b'c', body, starts, processors, scratch)?;
+    lend(sink, b's', body, starts, processors, small_scratch(scratch))
 }
 
-fn run(by_weight: bool, body: &[u8]) {
+fn run<W: Write>(sink: &mut W, by_weight: bool, body: &[u8]) -> io::Result<()> {
     if body.len() < 15 {
-        return;
+        return Ok(());
     }
     let starts = number::two(body, 0) as usize;
     let processors = number::two(body, 2) as usize;
     let scratch = number::two(body, 4) as usize;
     if 300 < starts {
-        return;
+        return Ok(());
     }
     if 300 < processors {
-        return;
+        return Ok(());
     }
     if 4200 < scratch {
-        return;
+        return Ok(());
     }
-    lend_all(by_weight, body, starts, processors, scratch);
+    lend_all(sink, by_weight, body, starts, processors, scratch)
 }
 
-pub fn case(body: &[u8]) {
-    run(false, body);
+pub fn case<W: Write>(sink: &mut W, body: &[u8]) -> io::Result<()> {
+    run(sink, false, body)
 }
 
-pub fn weight_case(body: &[u8]) {
-    run(true, body);
+pub fn weight_case<W: Write>(sink: &mut W, body: &[u8]) -> io::Result<()> {
+    run(sink, true, body)
 }

@@ -1,25 +1,26 @@
 // A case of the reader: what it finds, that every spare place is 0, and that the writer gives the same bytes again.
 use crate::{number, show};
 use job::{Arrays, Platform, Verdict, Written};
+use std::io::{self, Write};
 
-fn show_platform(p: Platform) {
-    show::text(b" platform");
-    show::word(number::wide8(p.processors));
-    show::word(number::wide8(p.topology));
-    show::word(number::wide8(p.unit));
+fn show_platform<W: Write>(sink: &mut W, p: Platform) -> io::Result<()> {
+    show::text(sink, b" platform")?;
+    show::word(sink, number::wide8(p.processors))?;
+    show::word(sink, number::wide8(p.topology))?;
+    show::word(sink, number::wide8(p.unit))
 }
 
-fn show_counts(tasks: usize, edges: usize, p: Platform) {
-    show::text(b"job");
-    show::word(number::wide(tasks));
-    show::word(number::wide(edges));
-    show_platform(p);
+fn show_counts<W: Write>(sink: &mut W, tasks: usize, edges: usize, p: Platform) -> io::Result<()> {
+    show::text(sink, b"job")?;
+    show::word(sink, number::wide(tasks))?;
+    show::word(sink, number::wide(edges))?;
+    show_platform(sink, p)
 }
 
-fn show_refusal(number: u8, p: Platform) {
-    show::text(b"refused");
-    show::word(number::wide8(number));
-    show_platform(p);
+fn show_refusal<W: Write>(sink: &mut W, number: u8, p: Platform) -> io::Result<()> {
+    show::text(sink, b"refused")?;
+    show::word(sink, number::wide8(number))?;
+    show_platform(sink, p)
 }
 
 // Whether a place of the wires is one of a pair: two different processors below `n`.
@@ -44,103 +45,101 @@ fn wired(p: Platform) -> usize {
 }
 
 // The costs among the first `n` processors.
-fn show_costs(wires: &[u8; 256], n: usize) {
-    let mut i: usize = 0;
-    while i < 256 {
+fn show_costs<W: Write>(sink: &mut W, wires: &[u8; 256], n: usize) -> io::Result<()> {
+    for i in 0..256 {
         if is_pair(i, n) {
-            show::word(number::wide8(wires[i]));
+            show::word(sink, number::wide8(wires[i]))?;
         }
-        i += 1;
     }
+    Ok(())
 }
 
-fn show_wires(wires: &[u8; 256], p: Platform) {
+fn show_wires<W: Write>(sink: &mut W, wires: &[u8; 256], p: Platform) -> io::Result<()> {
     if p.topology == 3 {
-        show::text(b" wires");
-        show_costs(wires, wired(p));
+        show::text(sink, b" wires")?;
+        show_costs(sink, wires, wired(p))?;
     }
+    Ok(())
 }
 
 // The first `tasks` durations.
-fn show_tasks(durations: &[u32; 256], tasks: usize) {
-    let mut i: usize = 0;
-    while i < 256 {
+fn show_tasks<W: Write>(sink: &mut W, durations: &[u32; 256], tasks: usize) -> io::Result<()> {
+    for i in 0..256 {
         if tasks <= i {
-            return;
+            break;
         }
-        show::word(number::wide32(durations[i]));
-        i += 1;
+        show::word(sink, number::wide32(durations[i]))?;
     }
+    Ok(())
 }
 
-fn show_edge(from: u8, to: u8, count: u16) {
-    show::word(number::wide8(from));
-    show::word(number::wide8(to));
-    show::word(number::wide16(count));
+fn show_edge<W: Write>(sink: &mut W, from: u8, to: u8, count: u16) -> io::Result<()> {
+    show::word(sink, number::wide8(from))?;
+    show::word(sink, number::wide8(to))?;
+    show::word(sink, number::wide16(count))
 }
 
 // The first `edges` edges.
-fn show_edges(from: &[u8; 1024], to: &[u8; 1024], counts: &[u16; 1024], edges: usize) {
-    let mut i: usize = 0;
-    while i < 1024 {
+fn show_edges<W: Write>(
+    sink: &mut W,
+    from: &[u8; 1024],
+    to: &[u8; 1024],
+    counts: &[u16; 1024],
+    edges: usize,
+) -> io::Result<()> {
+    for i in 0..1024 {
         if edges <= i {
-            return;
+            break;
         }
-        show_edge(from[i], to[i], counts[i]);
-        i += 1;
+        show_edge(sink, from[i], to[i], counts[i])?;
     }
+    Ok(())
 }
 
-fn show_result(task: usize, count: u16) {
-    show::text(b" result");
-    show::word(number::wide(task));
-    show::word(number::wide16(count));
+fn show_result<W: Write>(sink: &mut W, task: usize, count: u16) -> io::Result<()> {
+    show::text(sink, b" result")?;
+    show::word(sink, number::wide(task))?;
+    show::word(sink, number::wide16(count))
 }
 
 // The results of the first `tasks` tasks, nothing where a task has none.
-fn show_results(results: &[u16; 256], tasks: usize) {
-    let mut i: usize = 0;
-    while i < 256 {
+fn show_results<W: Write>(sink: &mut W, results: &[u16; 256], tasks: usize) -> io::Result<()> {
+    for i in 0..256 {
         if tasks <= i {
-            return;
+            break;
         }
         if results[i] != 0 {
-            show_result(i, results[i]);
+            show_result(sink, i, results[i])?;
         }
-        i += 1;
     }
+    Ok(())
 }
 
 // Whether the places of the wires that are of no pair below `n` are 0.
 fn are_wires_clear(wires: &[u8; 256], n: usize) -> bool {
-    let mut i: usize = 0;
-    while i < 256 {
+    for i in 0..256 {
         if wires[i] != 0 {
             if !is_pair(i, n) {
                 return false;
             }
         }
-        i += 1;
     }
     true
 }
 
 // Whether the durations from place `tasks` on are 0.
 fn are_tasks_clear(durations: &[u32; 256], tasks: usize) -> bool {
-    let mut i = tasks;
-    while i < 256 {
+    for i in tasks..256 {
         if durations[i] != 0 {
             return false;
         }
-        i += 1;
     }
     true
 }
 
 // Whether all three arrays are 0 from place `edges` on.
 fn are_edges_clear(from: &[u8; 1024], to: &[u8; 1024], counts: &[u16; 1024], edges: usize) -> bool {
-    let mut i = edges;
-    while i < 1024 {
+    for i in edges..1024 {
         if from[i] != 0 {
             return false;
         }
@@ -150,44 +149,42 @@ fn are_edges_clear(from: &[u8; 1024], to: &[u8; 1024], counts: &[u16; 1024], edg
         if counts[i] != 0 {
             return false;
         }
-        i += 1;
     }
     true
 }
 
 // Whether the results from place `tasks` on are 0.
 fn are_results_clear(results: &[u16; 256], tasks: usize) -> bool {
-    let mut i = tasks;
-    while i < 256 {
+    for i in tasks..256 {
         if results[i] != 0 {
             return false;
         }
-        i += 1;
     }
     true
 }
 
-fn show_spare(
+fn show_spare<W: Write>(
+    sink: &mut W,
     are_wires_clear: bool,
     are_tasks_clear: bool,
     are_edges_clear: bool,
     are_results_clear: bool,
-) {
+) -> io::Result<()> {
     if are_wires_clear {
         if are_tasks_clear {
             if are_edges_clear {
                 if are_results_clear {
-                    show::text(b" spare 0");
-                    return;
+                    return show::text(sink, b" spare 0");
                 }
             }
         }
     }
-    show::text(b" spare set");
+    show::text(sink, b" spare set")
 }
 
 // The wires, tasks, edges and results, and whether all other places are 0.
-fn show_job<'a>(
+fn show_job<'a, W: Write>(
+    sink: &mut W,
     platform: Platform,
     tasks: usize,
     edges: usize,
@@ -197,47 +194,57 @@ fn show_job<'a>(
     counts: &'a [u16; 1024],
     wires: &'a [u8; 256],
     results: &'a [u16; 256],
-) {
-    show_wires(wires, platform);
-    show::text(b" tasks");
-    show_tasks(durations, tasks);
-    show::text(b" edges");
-    show_edges(from, to, counts, edges);
-    show_results(results, tasks);
+) -> io::Result<()> {
+    show_wires(sink, wires, platform)?;
+    show::text(sink, b" tasks")?;
+    show_tasks(sink, durations, tasks)?;
+    show::text(sink, b" edges")?;
+    show_edges(sink, from, to, counts, edges)?;
+    show_results(sink, results, tasks)?;
     show_spare(
+        sink,
         are_wires_clear(wires, wired(platform)),
         are_tasks_clear(durations, tasks),
         are_edges_clear(from, to, counts, edges),
         are_results_clear(results, tasks),
-    );
+    )
 }
 
 fn is_same(file: &[u8], out: &[u8], written: Written) -> bool {
     let Written::Length(n) = written else {
         return false;
     };
-    check::same(file, show::first(out, n))
+    file == show::first(out, n)
 }
 
 // Writes the job again, and says whether that gives the same bytes.
-fn show_again(file: &[u8], platform: Platform, tasks: usize, edges: usize, arrays: Arrays) {
+fn show_again<W: Write>(
+    sink: &mut W,
+    file: &[u8],
+    platform: Platform,
+    tasks: usize,
+    edges: usize,
+    arrays: Arrays,
+) -> io::Result<()> {
     let mut out = [238u8; 8400];
     let written = job::write(platform, tasks, edges, arrays, &mut out);
     if is_same(file, &out, written) {
-        show::text(b" same\n");
+        show::text(sink, b" same\n")?;
     } else {
-        show::text(b" differs\n");
+        show::text(sink, b" differs\n")?;
     }
+    Ok(())
 }
 
 // Runs the case of a file.
-pub fn case(file: &[u8]) {
+pub fn case<W: Write>(sink: &mut W, file: &[u8]) -> io::Result<()> {
     let r = job::read(file);
     let verdict = r.verdict;
     match verdict {
         Verdict::Counts { tasks, edges } => {
-            show_counts(tasks, edges, r.platform);
+            show_counts(sink, tasks, edges, r.platform)?;
             show_job(
+                sink,
                 r.platform,
                 tasks,
                 edges,
@@ -247,12 +254,13 @@ pub fn case(file: &[u8]) {
                 &r.arrays.counts,
                 &r.arrays.wires,
                 &r.arrays.results,
-            );
-            show_again(file, r.platform, tasks, edges, r.arrays);
+            )?;
+            show_again(sink, file, r.platform, tasks, edges, r.arrays)?;
         }
         Verdict::Refused(number) => {
-            show_refusal(number, r.platform);
+            show_refusal(sink, number, r.platform)?;
             show_job(
+                sink,
                 r.platform,
                 0,
                 0,
@@ -262,8 +270,9 @@ pub fn case(file: &[u8]) {
                 &r.arrays.counts,
                 &r.arrays.wires,
                 &r.arrays.results,
-            );
-            show::text(b"\n");
+            )?;
+            show::text(sink, b"\n")?;
         }
     }
+    Ok(())
 }

@@ -1,8 +1,8 @@
-// Printing to standard output.
+// Printing to the output.
 ghost use Rattle.std.specs.Prelude.{◌<◌};
 
 use crate::number;
-use libc::STDOUT_FILENO;
+use std::io::{self, Write};
 
 // The first `n` bytes, or all where there are fewer.
 pub fn first(bytes: &[u8], n: usize) -> &[u8] {
@@ -18,41 +18,37 @@ pub fn rest(bytes: &[u8], n: usize) -> &[u8] {
     if n <= bytes.len() { &bytes[n..] } else { bytes }
 }
 
-pub fn text(bytes: &[u8]) {
-    io::write_all(STDOUT_FILENO, bytes);
+pub fn text<W: Write>(sink: &mut W, bytes: &[u8]) -> io::Result<()> {
+    sink.write_all(bytes)
 }
 
 // A space and a number.
-pub fn word(n: u64) {
-    text(b" ");
-    io::print_decimal(STDOUT_FILENO, n);
+pub fn word<W: Write>(sink: &mut W, n: u64) -> io::Result<()> {
+    write!(sink, " {n}")
 }
 
 // Each byte as two hexadecimal digits.
-pub fn hex(bytes: &[u8]) {
-    let mut i: usize = 0;
-    while i < bytes.len() {
-        io::print_hex(STDOUT_FILENO, number::wide8(bytes[i]), 2);
-        i += 1;
+pub fn hex<W: Write>(sink: &mut W, bytes: &[u8]) -> io::Result<()> {
+    for byte in bytes {
+        write!(sink, "{byte:02x}")?;
     }
+    Ok(())
 }
 
 // Each number, after a space.
-pub fn words(numbers: &[u32]) {
-    let mut i: usize = 0;
-    while i < numbers.len() {
-        word(number::wide32(numbers[i]));
-        i += 1;
+pub fn words<W: Write>(sink: &mut W, numbers: &[u32]) -> io::Result<()> {
+    for number in numbers {
+        word(sink, number::wide32(*number))?;
     }
+    Ok(())
 }
 
 // Each byte as a number, after a space.
-pub fn byte_words(bytes: &[u8]) {
-    let mut i: usize = 0;
-    while i < bytes.len() {
-        word(number::wide8(bytes[i]));
-        i += 1;
+pub fn byte_words<W: Write>(sink: &mut W, bytes: &[u8]) -> io::Result<()> {
+    for byte in bytes {
+        word(sink, number::wide8(*byte))?;
     }
+    Ok(())
 }
 
 // One more number in a digest.
@@ -68,11 +64,9 @@ pub fn with_numbers(digest: u64, numbers: &[u32]) -> u64
     requires { digest < 4294967291 }
     ensures { result < 4294967291 }
 {
-    let mut i: usize = 0;
     let mut sum = digest;
-    while i < numbers.len() {
-        sum = mixed(sum, number::wide32(numbers[i]));
-        i += 1;
+    for number in numbers {
+        sum = mixed(sum, number::wide32(*number));
     }
     sum
 }
@@ -82,21 +76,19 @@ pub fn with_bytes(digest: u64, bytes: &[u8]) -> u64
     requires { digest < 4294967291 }
     ensures { result < 4294967291 }
 {
-    let mut i: usize = 0;
     let mut sum = digest;
-    while i < bytes.len() {
-        sum = mixed(sum, number::wide8(bytes[i]));
-        i += 1;
+    for byte in bytes {
+        sum = mixed(sum, number::wide8(*byte));
     }
     sum
 }
 
 // A digest of numbers that are too many to print.
-pub fn digest(numbers: &[u32]) {
-    word(with_numbers(0, numbers));
+pub fn digest<W: Write>(sink: &mut W, numbers: &[u32]) -> io::Result<()> {
+    word(sink, with_numbers(0, numbers))
 }
 
 // A digest of bytes that are too many to print.
-pub fn byte_digest(bytes: &[u8]) {
-    word(with_bytes(0, bytes));
+pub fn byte_digest<W: Write>(sink: &mut W, bytes: &[u8]) -> io::Result<()> {
+    word(sink, with_bytes(0, bytes))
 }

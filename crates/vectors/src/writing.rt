@@ -12,34 +12,29 @@ ghost use Rattle.std.specs.Prelude.{◌+◌, ◌*◌, ◌≤◌, length};
 
 use crate::{number, show};
 use job::{Arrays, Platform, Written};
+use std::io::{self, Write};
 
 fn put_wires(body: &[u8], wires: &mut [u8; 256])
     requires { 256 ≤ length body.now }
 {
-    let mut i: usize = 0;
-    while i < 256 {
+    for i in 0..256 {
         wires[i] = body[i];
-        i += 1;
     }
 }
 
 fn put_results(body: &[u8], results: &mut [u16; 256])
     requires { 512 ≤ length body.now }
 {
-    let mut i: usize = 0;
-    while i < 256 {
+    for i in 0..256 {
         results[i] = number::two(body, 2 * i) as u16;
-        i += 1;
     }
 }
 
 fn put_durations(body: &[u8], given: usize, durations: &mut [u32; 256])
     requires { (given ≤ 256) × (32 + 4 * given ≤ length body.now) }
 {
-    let mut i: usize = 0;
-    while i < given {
+    for i in 0..given {
         durations[i] = number::four(body, 32 + 4 * i) as u32;
-        i += 1;
     }
 }
 
@@ -51,9 +46,8 @@ fn put_edges(
     to: &mut [u8; 1024],
     counts: &mut [u16; 1024],
 ) {
-    let mut i: usize = 0;
     let mut place = at;
-    while i < 1024 {
+    for i in 0..1024 {
         if body.len() < 4 {
             return;
         }
@@ -64,25 +58,31 @@ fn put_edges(
         to[i] = body[place + 1];
         counts[i] = number::two(body, place + 2) as u16;
         place += 4;
-        i += 1;
     }
 }
 
-fn show_written(written: Written) {
+fn show_written<W: Write>(sink: &mut W, written: Written) -> io::Result<()> {
     match written {
         Written::Length(n) => {
-            show::text(b"written");
-            show::word(number::wide(n));
+            show::text(sink, b"written")?;
+            show::word(sink, number::wide(n))?;
         }
         Written::Refused(number) => {
-            show::text(b"refused");
-            show::word(number::wide8(number));
+            show::text(sink, b"refused")?;
+            show::word(sink, number::wide8(number))?;
         }
     }
+    Ok(())
 }
 
 // Writes the job to the first `room` bytes of the output.
-fn write(body: &[u8], room: usize, arrays: Arrays, out: &mut [u8])
+fn write<W: Write>(
+    sink: &mut W,
+    body: &[u8],
+    room: usize,
+    arrays: Arrays,
+    out: &mut [u8],
+) -> io::Result<()>
     requires { (32 ≤ length body.now) × (room ≤ length out.old) }
 {
     let platform = Platform {
@@ -93,27 +93,32 @@ fn write(body: &[u8], room: usize, arrays: Arrays, out: &mut [u8])
     let tasks = number::eight(body, 0) as usize;
     let edges = number::eight(body, 8) as usize;
     let written = job::write(platform, tasks, edges, arrays, &mut out[0..room]);
-    show_written(written);
-    show::text(b" [");
-    show::hex(show::first(out, room));
-    show::text(b"]\n");
+    show_written(sink, written)?;
+    show::text(sink, b" [")?;
+    show::hex(sink, show::first(out, room))?;
+    show::text(sink, b"]\n")
 }
 
 // Runs the case of a job held as numbers, with these wires and results.
-fn held(body: &[u8], wires: [u8; 256], results: [u16; 256]) {
+fn held<W: Write>(
+    sink: &mut W,
+    body: &[u8],
+    wires: [u8; 256],
+    results: [u16; 256],
+) -> io::Result<()> {
     if body.len() < 32 {
-        return;
+        return Ok(());
     }
     let room = number::two(body, 20) as usize;
     let given = number::two(body, 22) as usize;
     if 8400 < room {
-        return;
+        return Ok(());
     }
     if 256 < given {
-        return;
+        return Ok(());
     }
     if body.len() < 32 + 4 * given {
-        return;
+        return Ok(());
     }
     let mut durations = [number::four(body, 24) as u32; 256];
     let mut from = [body[28]; 1024];
@@ -130,29 +135,29 @@ fn held(body: &[u8], wires: [u8; 256], results: [u16; 256]) {
         wires,
         results,
     };
-    write(body, room, arrays, &mut out);
+    write(sink, body, room, arrays, &mut out)
 }
 
-pub fn case(body: &[u8]) {
-    held(body, [0u8; 256], [0u16; 256]);
+pub fn case<W: Write>(sink: &mut W, body: &[u8]) -> io::Result<()> {
+    held(sink, body, [0u8; 256], [0u16; 256])
 }
 
-pub fn wired_case(body: &[u8]) {
+pub fn wired_case<W: Write>(sink: &mut W, body: &[u8]) -> io::Result<()> {
     if body.len() < 256 {
-        return;
+        return Ok(());
     }
     let mut wires = [0u8; 256];
     put_wires(body, &mut wires);
-    held(&body[256..], wires, [0u16; 256]);
+    held(sink, &body[256..], wires, [0u16; 256])
 }
 
-pub fn result_case(body: &[u8]) {
+pub fn result_case<W: Write>(sink: &mut W, body: &[u8]) -> io::Result<()> {
     if body.len() < 768 {
-        return;
+        return Ok(());
     }
     let mut results = [0u16; 256];
     let mut wires = [0u8; 256];
     put_results(body, &mut results);
     put_wires(&body[512..], &mut wires);
-    held(&body[768..], wires, results);
+    held(sink, &body[768..], wires, results)
 }
