@@ -1,0 +1,23 @@
+-- `read_all`: what a turn reads goes on from what came before it.
+use Rattle.std.proofs.Common.{◌≡◌, ℕ, ◌+◌, ◌-◌, ◌≤◌, List, ◌++◌, rules, length, take, drop, sym, ap, ◌∙◌, subst, le_refl, drop_at, length-take-le}
+use Rattle.std.proofs.lemmas.Slice.{take-put_mid_below}
+use Rattle.std.specs.Io.KnownBytes.{Consumes}
+use Rattle.std.proofs.KnownBytes.{Consumes-trans}
+use borrow.Rule.Slice.PartMut.{put_mid, post_of}
+use lib.Seq.{take-add, take-append-le}
+use Rattle.input.proofs.read_all.Goals as goal
+
+-- what stands before the place that is reached, where n bytes came to place a
+reached : (a k n : ℕ) (xs ys : List ℕ) → a ≤ length xs → n ≤ length ys → take (a + n) (put_mid a k xs ys) ≡ take a xs ++ take n ys
+reached a k n xs ys within fits =
+    let all = put_mid a k xs ys in
+    let after = ys ++ post_of a k xs in
+    take-add a n all
+    ∙ ap (λ l. l ++ take n (drop a all)) (take-put_mid_below a k xs ys a (le_refl a) within)
+    ∙ ap (λ l. take a xs ++ take n l) (drop_at (take a xs) after a (length-take-le a xs within))
+    ∙ ap (λ l. take a xs ++ l) (take-append-le n ys (post_of a k xs) fits)
+
+pub loop-at-preserved : goal.loop-at-preserved
+loop-at-preserved g c =
+    let joined = reached c.loop-at.at (length c.loop-at.input - c.loop-at.at) c.in-Bytes.n c.loop-at.input c.read_once-came.new.rest c.loop-at.invariant.0 (search rules) in
+    (search rules, search rules, subst (Consumes _ _) (sym joined) (Consumes-trans _ _ _ _ _ c.loop-at.invariant.2 c.in-Bytes.ensures.bytes))
