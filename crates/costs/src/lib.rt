@@ -1,5 +1,7 @@
 // Link costs (document 01, "Link costs"; document 02, §1 and §5): what one message takes from each processor to each other, as a square.
 // The call asks nothing of its caller: of more processors than sixteen the first sixteen have a place in the square.
+#![tactic(auto)]
+
 ghost use Rattle.std.specs.Prelude.{◌≡◌, ◌≤◌, ◌<◌};
 ghost use Rattle.etf.specs.Topology.{hypercube_hops, ring_hops, hops as hops_of, cost as cost_of, square as square_of};
 ghost use Rattle.costs.specs.Wires.{loaded};

@@ -1,5 +1,7 @@
 // The planners and the checker on job bytes and plan bytes (document 01; document 02 §4 and §6), and the page of a plan (§3), as C calls
 // them: crate kelvrist_c exports each.
+#![tactic(auto)]
+
 mod encoding;
 
 ghost use Rattle.std.specs.Prelude.{◌≡◌, [], ◌≤◌, length};

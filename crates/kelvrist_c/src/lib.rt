@@ -1,5 +1,6 @@
 // The planners, the checker and the page for C: each export is the function of crate kelvrist that has its name, with its promise.
 #![tactic(auto)]
+
 ghost use Rattle.std.specs.Prelude.{◌≡◌};
 ghost use Rattle.kelvrist.specs.PlanBytes.{returned, plan_bytes_call, weight_bytes_call, check_bytes_call};
 ghost use Rattle.kelvrist.specs.PageBytes.{drew, page_bytes_call};

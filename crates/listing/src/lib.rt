@@ -1,4 +1,6 @@
 // The text that program `plan` prints for a job file (document 01, "Ticks worked out").
+#![tactic(auto)]
+
 mod put;
 
 ghost use Rattle.std.specs.Prelude.{◌≡◌, ℕ, ◌+◌, ◌*◌, ◌≤◌, ◌<◌, length, get_or};

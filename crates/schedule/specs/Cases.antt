@@ -4,9 +4,6 @@ use Rattle.std.specs.Prelude.{◌≡◌, refl, List, [], ◌∷◌, ◌++◌, ma
 use Rattle.base.specs.Slices.{filled}
 use Rattle.job.specs.Job.{Job, blank, with_rack, with_tasks, with_edges}
 use Rattle.job.specs.Cases.{computed}
-use Rattle.etf.specs.Schedule.{end}
-use Rattle.etf.specs.Cover.{cover}
-use Rattle.etf.specs.Dearest.{dearest}
 use Rattle.etf.specs.Cases.{answer}
 use Rattle.etf.specs.OfJob.{instance}
 use Rattle.schedule.specs.declared.Planned.TheVariants.{Plan, Refused}

@@ -1,4 +1,6 @@
 // The planner, the cover and the checker (document 01; document 02 §4, §6 and §7).
+#![tactic(auto)]
+
 mod chains;
 mod checker;
 mod delivery;

@@ -1,5 +1,7 @@
 // The job reader and writer, the square of costs, the planners on slices, the cover calls and the page as functions that the benchmark
 // (bench/) and the differential (tests/differential) call from C.
+#![tactic(auto)]
+
 ghost use Rattle.std.specs.Prelude.{◌≡◌, ◌<◌, ◌≤◌, length, get_or};
 ghost use Rattle.job.specs.Read.{read_job, reading_of};
 ghost use Rattle.schedule.specs.Call.{called};

@@ -30,7 +30,7 @@ found : (c : Joined-p-q) →
     (c.if-p-q.d ≡ difference c.args.p c.args.q) × (c.if-p-q.d < c.args.n)
 found c =
     (elim c.if-p-q.branch [
-      then-p-q w ↦ above _ _ _ _ w.if-p-q.true w.d-is (search rules)
+      | then-p-q w ↦ above _ _ _ _ w.if-p-q.true w.d-is (search rules)
       | else-p-q w ↦ below _ _ _ _ w.if-p-q.false w.d-is (search rules)
     ])
 

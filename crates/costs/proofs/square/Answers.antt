@@ -1,5 +1,4 @@
 -- `square`: each entry is the square's, or its place, counted row by row, is still to come.
-use Prim.Native.Nat.{◌-◌}
 use native.Mathlib.Nat.{add-zero}
 use borrow.Author.Rules.{rules}
 use Rattle.costs.proofs.square.Invariants.{zeros, start, more, row_done, done}
@@ -15,8 +14,7 @@ loop-q-init c =
     (search rules, rw (add-zero _) c.loop-p.invariant.1)
 
 pub loop-q-preserved : goal.loop-q-preserved
-loop-q-preserved c =
-    (
+loop-q-preserved c = (
   search rules,
   more _ _ _ _ _ _ c.loop-q.invariant.1 (search rules) (search rules) (search rules) (search rules)
       c.cost-x.ensures,

@@ -8,8 +8,6 @@ use Rattle.job.specs.Read.{Answer, accepted, refused, read_job}
 use Rattle.job.specs.Cause.{ReaderNumber}
 use Rattle.job.specs.Refusal.{read_numbers}
 use Rattle.etf.specs.Instance.{duration}
-use Rattle.etf.specs.Cover.{cover}
-use Rattle.etf.specs.Dearest.{dearest}
 use Rattle.etf.specs.OfJob.{instance}
 use Rattle.etf.proofs.Jobs.{by_number}
 use Rattle.schedule.specs.declared.Planned.TheVariants.{Plan}

@@ -22,9 +22,11 @@ pub last_finish-last-requires : goal.last_finish-last-requires
 last_finish-last-requires c =
     let reach =
     arrays_reach _ _ _ c.judge-judged.ensures c.in-Counts.is c.index-n.ensures.0
-    c.in_default-checked.is in record
-        { tasks_in_bounds = reach; by_index = finishes_fit _ _ _ c.judge-judged.ensures c.in-Counts.is c.index-n.ensures.0
-          c.in_default-checked.is }
+    c.in_default-checked.is in record {
+      tasks_in_bounds = reach;
+      by_index = finishes_fit _ _ _ c.judge-judged.ensures c.in-Counts.is c.index-n.ensures.0
+          c.in_default-checked.is;
+    }
 
 pub overflow_add-width : goal.overflow_add-width
 overflow_add-width c =
@@ -38,17 +40,19 @@ overflow_add-width c =
     }
 
 pub put_rows-requires : goal.put_rows-requires
-put_rows-requires c =
-    (
-      omega (arith, few_processors _ _ _ c.judge-judged.ensures c.in-Counts.is, c.index-n.ensures.0),
-      omega (arith, c.if-out-length.false),
-    )
+put_rows-requires c = (
+  omega (arith, few_processors _ _ _ c.judge-judged.ensures c.in-Counts.is, c.index-n.ensures.0),
+  omega (arith, c.if-out-length.false),
+)
 
 pub mark_tasks-requires : goal.mark_tasks-requires
 mark_tasks-requires c =
-    record { drawable = drawable _ _ _ c.judge-judged.ensures c.in-Counts.is c.index-n.ensures.0
-          c.in_default-checked.is c.last_finish-last.ensures (omega arith); n_in_bounds
-              = (omega (arith, c.if-out-length.false, c.put_rows.auto.out), rows_front _ _ _ _ c.put_rows.ensures) }
+    record {
+      drawable = drawable _ _ _ c.judge-judged.ensures c.in-Counts.is c.index-n.ensures.0
+          c.in_default-checked.is c.last_finish-last.ensures (omega arith);
+      n_in_bounds
+          = (omega (arith, c.if-out-length.false, c.put_rows.auto.out), rows_front _ _ _ _ c.put_rows.ensures);
+    }
 
 pub returns : goal.returns
 returns c =

@@ -1,6 +1,5 @@
 -- `fill`: the bytes put so far are a run of as many stores.
 use mathlib.Core.Path.{◌≡◌, refl}
-use Prim.Native.Nat.{◌-◌}
 use native.Mathlib.Omega.{arith}
 use borrow.Author.Rules.{rules}
 use Rattle.gantt.specs.Laws.Rows.{run_more}

@@ -1,6 +1,5 @@
 -- `last_finish`: before task t the last is the greatest finish of the tasks below t; each turn adds one task.
 use mathlib.Core.Path.{◌≡◌}
-use Prim.Native.Nat.{◌-◌}
 use native.Mathlib.Omega.{arith}
 use borrow.Author.Rules.{rules}
 use Rattle.base.specs.Laws.Most.{none_yet, one_place}
@@ -22,7 +21,7 @@ loop-t-preserved c =
       search rules,
       search rules,
       (elim c.if-last-finish.branch [
-        then-last-finish w ↦ one_place _ _ _ _ v.3 (omega (arith, w.if-last-finish.true, w.last-is))
+        | then-last-finish w ↦ one_place _ _ _ _ v.3 (omega (arith, w.if-last-finish.true, w.last-is))
         | else-last-finish w ↦ one_place _ _ _ _ v.3 (omega (arith, w.if-last-finish.false, w.last-is))
       ]),
     )

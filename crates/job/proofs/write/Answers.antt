@@ -110,8 +110,12 @@ pub put_job-length-requires : goal.put_job-length-requires
 put_job-length-requires c =
     let many = c.result_count-many.ensures.0 in
     record {
-      holds = (c.job_trouble-number.ensures.holds (omega (arith, c.if-number-gt0.false)), c.if-tasks-gt256.false,
-          c.if-edges-gt1024.false, many);
+      holds = (
+        c.job_trouble-number.ensures.holds (omega (arith, c.if-number-gt0.false)),
+        c.if-tasks-gt256.false,
+        c.if-edges-gt1024.false,
+        many,
+      );
       results_in_bounds = held_room _ _ _ _ _ _ c.file_length.ensures many c.if-out-file_length.false;
     }
 

@@ -21,5 +21,8 @@ whole E C L D e c' l' d' p q r s w x y z = rw (w, x, y, z) at (put_then p (put_t
 pub returns : goal.returns
 unfolding text
 returns c =
-    record { put = whole _ _ _ _ _ _ _ _ c.line-second.ensures.put c.line-third.ensures.put c.line-fourth.ensures.put
-          c.line.ensures.put (omega arith) (omega arith) (omega arith) (omega arith); upper_bound = search rules }
+    record {
+      put = whole _ _ _ _ _ _ _ _ c.line-second.ensures.put c.line-third.ensures.put c.line-fourth.ensures.put
+          c.line.ensures.put (omega arith) (omega arith) (omega arith) (omega arith);
+      upper_bound = search rules;
+    }

@@ -20,6 +20,9 @@ whole word n t s n' t' s' w p q r u x y z = rw (w, x, y, z) at (put_then p (put_
 pub returns : goal.returns
 unfolding text
 returns c =
-    record { put = whole _ _ _ _ _ _ _ refl c.word-first.ensures
+    record {
+      put = whole _ _ _ _ _ _ _ refl c.word-first.ensures
           c.field-second.ensures.put c.field-third.ensures.put c.field.ensures.put
-          (omega (arith, c.wide8.ensures)) (omega arith) (omega arith); upper_bound = search rules }
+          (omega (arith, c.wide8.ensures)) (omega arith) (omega arith);
+      upper_bound = search rules;
+    }

@@ -1,14 +1,12 @@
 -- `lines`: the lines put so far are those of the first tasks.
 use mathlib.Core.Path.{◌≡◌, refl}
-use Prim.Native.Nat.{◌-◌}
 use native.Mathlib.Omega.{arith}
 use borrow.Author.Rules.{rules}
 use Rattle.listing.specs.Laws.Put.{lines_none, lines_more}
 use Rattle.listing.proofs.lines.Goals as goal
 
 pub loop-t-init : goal.loop-t-init
-loop-t-init c =
-    (
+loop-t-init c = (
   search rules,
   search rules,
   search rules,
@@ -25,19 +23,18 @@ overflow_add-finish c =
     record { fits = c.requires.by_index c.loop-t.t (omega (arith, c.loop-t-test.true)) }
 
 pub loop-t-preserved : goal.loop-t-preserved
-loop-t-preserved c =
-    (
-      search rules,
-      search rules,
-      search rules,
-      search rules,
-      search rules,
-      search rules,
-      search rules,
-      search rules,
-      lines_more _ _ _ _ _ _ _ _ c.loop-t.invariant.8 c.task-place.ensures.put
-          (omega arith) (omega (arith, c.wide8.ensures)) (omega arith) (omega arith),
-    )
+loop-t-preserved c = (
+  search rules,
+  search rules,
+  search rules,
+  search rules,
+  search rules,
+  search rules,
+  search rules,
+  search rules,
+  lines_more _ _ _ _ _ _ _ _ c.loop-t.invariant.8 c.task-place.ensures.put
+      (omega arith) (omega (arith, c.wide8.ensures)) (omega arith) (omega arith),
+)
 
 pub returns : goal.returns
 returns c =

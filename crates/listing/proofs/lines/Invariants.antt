@@ -11,7 +11,7 @@ invariant-loop-t l = (l.t ≤ l.tasks) × (l.tasks ≤ 256) × (l.place ≤ l.at
     × (length l.out ≡ length l.initial.out)
     × (l.tasks ≤ length l.durations) × (l.tasks ≤ length l.starts) × (l.tasks ≤ length l.processors)
     × Put l.initial.out l.out l.at l.place
-        (task_lines l.t (λ T. get_or l.processors T 0) (λ T. get_or l.starts T 0) (λ T. get_or l.durations T 0))
+    (task_lines l.t (λ T. get_or l.processors T 0) (λ T. get_or l.starts T 0) (λ T. get_or l.durations T 0))
 
 abbrev pub decreases-loop-t : goal.decreases-loop-t
 decreases-loop-t l = l.tasks - l.t

@@ -16,5 +16,8 @@ whole T P start finish p q r s = put_then p (put_then q (put_then r s))
 
 pub returns : goal.returns
 returns c =
-    record { put = whole _ _ _ _ c.field-second.ensures.put c.field-third.ensures.put c.field-fourth.ensures.put
-          c.field.ensures.put; upper_bound = search rules }
+    record {
+      put = whole _ _ _ _ c.field-second.ensures.put c.field-third.ensures.put c.field-fourth.ensures.put
+          c.field.ensures.put;
+      upper_bound = search rules;
+    }

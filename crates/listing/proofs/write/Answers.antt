@@ -15,12 +15,11 @@ returns-in_default c =
     }
 
 pub header-first-requires : goal.header-first-requires
-header-first-requires c =
-    (
-      few_tasks _ c.read-r.ensures c.in-Counts.is,
-      few_edges _ c.read-r.ensures c.in-Counts.is,
-      search rules,
-    )
+header-first-requires c = (
+  few_tasks _ c.read-r.ensures c.in-Counts.is,
+  few_edges _ c.read-r.ensures c.in-Counts.is,
+  search rules,
+)
 
 pub lines-last-requires : goal.lines-last-requires
 lines-last-requires c =
@@ -42,8 +41,11 @@ returns c =
     let read = c.read-r.ensures in
     let few = few_tasks _ read c.in-Counts.is in
     let short : c.figures.result ≤ 12288 = omega
-        (arith, few, c.header-first.ensures.upper_bound, c.lines-last.ensures.upper_bound, c.figures.ensures.upper_bound) in
-    record { out_after = plan_listed _ read c.in-Counts.is _ _ _ refl refl refl c.plan-planned.ensures c.cover-covered.ensures _ _
+    (arith, few, c.header-first.ensures.upper_bound, c.lines-last.ensures.upper_bound, c.figures.ensures.upper_bound) in
+    record {
+      out_after = plan_listed _ read c.in-Counts.is _ _ _ refl refl refl c.plan-planned.ensures c.cover-covered.ensures _ _
           c.header-first.ensures.put c.lines-last.ensures.put c.figures.ensures.put
           c.end_in.ensures c.figures_in.ensures
-          (omega (arith, short)); upper_bound = short }
+          (omega (arith, short));
+      upper_bound = short;
+    }

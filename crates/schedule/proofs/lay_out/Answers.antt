@@ -30,10 +30,13 @@ pub run-requires : goal.run-requires
 run-requires c =
     let fits = long_enough c.too_short.ensures c.if-too_short.false in
     let scratch = c.args.scratch.now in
-    record { plannable = plannable_in c.requires c.args.ties _ (by_place (goal.at.run-requires c).After-order-order); tasks_in_bounds = (
+    record {
+      plannable = plannable_in c.requires c.args.ties _ (by_place (goal.at.run-requires c).After-order-order);
+      tasks_in_bounds = (
         omega (arith, c.order-order.ensures.result_len, c.requires.few_tasks),
         cleared_room scratch fits (filled_within (λ x. 0) 4096 scratch fits.2 c.clear.ensures),
-      ) }
+      );
+    }
 
 pub returns : goal.returns
 returns c =

@@ -18,7 +18,7 @@ trouble-trouble-requires c =
 pub returns-then-trouble-gt0 : goal.returns-then-trouble-gt0
 returns-then-trouble-gt0 c =
     said_trouble _ _ _ _ c.if-starts-tasks.false c.if-processors-tasks.false c.trouble-trouble.ensures
-        (λ z. omega (arith, z, c.if-trouble-gt0.true))
+    (λ z. omega (arith, z, c.if-trouble-gt0.true))
 
 pub returns : goal.returns
 returns c =

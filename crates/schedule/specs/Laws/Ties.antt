@@ -9,7 +9,7 @@ use Rattle.base.specs.Laws.Lists.{place}
 use Rattle.base.specs.Laws.Values.{length-values, value_at, value_in, values_back}
 use Rattle.job.specs.Job.{Edge, Job}
 use Rattle.job.specs.Write.{edge_held}
-use Rattle.etf.specs.Instance.{Instance, ordered, tasks}
+use Rattle.etf.specs.Instance.{Instance, ordered}
 use Rattle.etf.specs.OfJob.{instance}
 use Rattle.priority.specs.declared.Ties.{Ties}
 use Rattle.priority.specs.Orders.{order_by, instance_by, every_task, only_tasks, as_many_tasks}

@@ -69,10 +69,10 @@ pub returns-then-place-lt3840 : goal.returns-then-place-lt3840
 returns-then-place-lt3840 c =
     in_results _ _ c.read-r.ensures _ _ c.delivery.ensures
     c.if-place-lt256.false c.if-place-lt1280.false c.if-place-lt2304.false c.if-place-lt3328.false c.if-place-lt3584.false
-        c.if-place-lt3840.true
+    c.if-place-lt3840.true
 
 pub returns : goal.returns
 returns c =
     past _ _ c.read-r.ensures _ _ (c.wide8.ensures.0 ∙ c.number.ensures)
     c.if-place-lt256.false c.if-place-lt1280.false c.if-place-lt2304.false c.if-place-lt3328.false c.if-place-lt3584.false
-        c.if-place-lt3840.false
+    c.if-place-lt3840.false

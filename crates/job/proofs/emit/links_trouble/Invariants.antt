@@ -33,7 +33,7 @@ module _ (from to counts : List ℕ) (m l i least : ℕ) where
 abbrev pub invariant-loop-i : goal.invariant-loop-i
 invariant-loop-i l = (l.i ≤ l.edges) × (l.edges ≤ length l.from) × (l.edges ≤ length l.to) × (l.edges ≤ length l.counts)
     × (links_trouble l.tasks l.least (left l.from l.to l.counts l.tasks l.edges l.i l.least) ≡ links_trouble l.tasks 0
-        (values (edge_held l.from l.to l.counts) 0 l.edges))
+    (values (edge_held l.from l.to l.counts) 0 l.edges))
 
 abbrev pub decreases-loop-i : goal.decreases-loop-i
 decreases-loop-i l = l.edges - l.i

@@ -98,7 +98,7 @@ loop-t-preserved c =
     let g = c.loop-t.invariant in
     let h = c.loop-t-test.true in
     (elim c.if-count-ne0.branch [
-      then-count-ne0 w ↦
+      | then-count-ne0 w ↦
           turn _ _ _ _ _ _ _ g h w.if-count-ne0.true _ _ _ _ w.out-is w.at-is w.put_result-at.auto.out w.put_result-at.ensures
       | else-count-ne0 w ↦ past _ _ _ _ _ _ _ g h _ _ w.out-is w.at-is w.if-count-ne0.false
     ])

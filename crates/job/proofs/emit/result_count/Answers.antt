@@ -38,7 +38,7 @@ loop-t-preserved c =
       search rules,
       search rules,
       (elim c.if-results-t-ne0.branch [
-        then-results-t-ne0 w ↦ w.count-is ∙ one_more _ _ _ g.2 w.if-results-t-ne0.true
+        | then-results-t-ne0 w ↦ w.count-is ∙ one_more _ _ _ g.2 w.if-results-t-ne0.true
         | else-results-t-ne0 w ↦ w.count-is ∙ no_more _ _ _ g.2 w.if-results-t-ne0.false
       ]),
     )

@@ -35,9 +35,12 @@ returns-then-trouble-ne0 c =
     }
 
 pub loop-i-preserved : goal.loop-i-preserved
-loop-i-preserved c =
-    (search rules, search rules, sym (on _ _ _ (search rules) _ c.step_trouble-trouble.ensures c.if-trouble-ne0.false)
-        ∙ c.loop-i.invariant.2)
+loop-i-preserved c = (
+  search rules,
+  search rules,
+  sym (on _ _ _ (search rules) _ c.step_trouble-trouble.ensures c.if-trouble-ne0.false)
+      ∙ c.loop-i.invariant.2,
+)
 
 pub returns : goal.returns
 returns c =

@@ -9,7 +9,7 @@ use Rattle.job.proofs.emit.steps_trouble.Given as goal
 abbrev pub invariant-loop-i : goal.invariant-loop-i
 invariant-loop-i l = (l.i ≤ l.tasks) × (l.tasks ≤ length l.durations)
     × (steps_trouble (values (λ t. get_or l.durations t 0) l.i (l.tasks - l.i)) ≡ steps_trouble
-        (values (λ t. get_or l.durations t 0) 0 l.tasks))
+    (values (λ t. get_or l.durations t 0) 0 l.tasks))
 
 abbrev pub decreases-loop-i : goal.decreases-loop-i
 decreases-loop-i l = l.tasks - l.i

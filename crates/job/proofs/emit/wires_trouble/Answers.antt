@@ -72,9 +72,11 @@ loop-pair-init c =
 
 pub place-requires : goal.place-requires
 place-requires c =
-    let g = c.loop-pair.invariant in
-    (omega (arith, g.few, is-pair (goal.at.place-requires c).In-loop-pair), omega
-        (arith, g.few, g.on.below (is-pair (goal.at.place-requires c).In-loop-pair)))
+    let g = c.loop-pair.invariant in (
+      omega (arith, g.few, is-pair (goal.at.place-requires c).In-loop-pair),
+      omega
+          (arith, g.few, g.on.below (is-pair (goal.at.place-requires c).In-loop-pair)),
+    )
 
 pub bounds-costs-place : goal.bounds-costs-place
 bounds-costs-place c =
@@ -93,9 +95,12 @@ returns-then-trouble-ne0 c =
 
 pub pair_after-pair-requires-in-loop-pair : goal.pair_after-pair-requires-in-loop-pair
 pair_after-pair-requires-in-loop-pair c =
-    let g = c.loop-pair.invariant in
-    (g.few, is-pair (goal.at.pair_after-pair-requires-in-loop-pair c).In-loop-pair, g.on.below
-        (is-pair (goal.at.pair_after-pair-requires-in-loop-pair c).In-loop-pair))
+    let g = c.loop-pair.invariant in (
+      g.few,
+      is-pair (goal.at.pair_after-pair-requires-in-loop-pair c).In-loop-pair,
+      g.on.below
+          (is-pair (goal.at.pair_after-pair-requires-in-loop-pair c).In-loop-pair),
+    )
 
 pub loop-pair-smaller : goal.loop-pair-smaller
 loop-pair-smaller c =

@@ -45,7 +45,7 @@ module _ (file : List ℕ) (at m : ℕ) (h : at < length file) (is : kind_of (ge
     module _ (l : 5 ≤ length file - at) (t d : ℕ) (e : d ≡ number (take 4 (drop (at + 1) file))) (i : t ≡ step_trouble d) where
       judged : (j : Job) → StepDue j m →
           records (drop at file) 0 j ≡ refused_or t
-              (refused_or (too_early_number j) (records (drop (at + 5) file) 0 (with_tasks j (d ∷ []))))
+          (refused_or (too_early_number j) (records (drop (at + 5) file) 0 (with_tasks j (d ∷ []))))
       unfolding body_length in_range misfit added duration_in step_trouble
       judged j s =
           rw (i, e, add-one at) (whole_at file at j step h is s.placed (steps_room s room) (omega arith) (omega arith)

@@ -33,7 +33,7 @@ row_after n x to from' h p k e =
 past-here : (w : Joined-to-x) → Past w.args.x.from w.args.x.to w.if-to-x.to
 past-here w =
     (elim w.if-to-x.branch [
-      then-to-x z ↦ inl (omega (arith, z.if-to-x.true), omega (arith, z.to-is))
+      | then-to-x z ↦ inl (omega (arith, z.if-to-x.true), omega (arith, z.to-is))
       | else-to-x z ↦ inr (λ e. z.if-to-x.false (omega (arith, e)), omega (arith, z.to-is))
     ])
 

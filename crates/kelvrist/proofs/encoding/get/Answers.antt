@@ -1,6 +1,5 @@
 -- `encoding::get`: the entries stored so far are the tasks of the plan's bytes, place by place.
 use mathlib.Core.Path.{◌≡◌, refl}
-use Prim.Native.Nat.{◌-◌}
 use native.Mathlib.Omega.{arith}
 use borrow.Author.Rules.{rules}
 use Rattle.kelvrist.specs.Laws.Encoded.{Got, got_more}
@@ -12,8 +11,7 @@ loop-t-init c =
     (search rules, search rules, search rules, search rules, refl, refl, λ T h. absurd (omega arith))
 
 pub loop-t-preserved : goal.loop-t-preserved
-loop-t-preserved c =
-    (
+loop-t-preserved c = (
   search rules,
   search rules,
   search rules,

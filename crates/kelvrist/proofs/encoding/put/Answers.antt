@@ -1,6 +1,5 @@
 -- `encoding::put`: the tasks put so far are stores one after the other.
 use mathlib.Core.Path.{◌≡◌, refl, ◌∙◌}
-use Prim.Native.Nat.{◌-◌}
 use native.Mathlib.Omega.{arith}
 use borrow.Author.Rules.{rules}
 use Rattle.kelvrist.specs.Laws.Encoded.{put_none, put_more, put_all}
@@ -11,15 +10,14 @@ loop-t-init c =
     (search rules, search rules, search rules, search rules, refl, put_none _ _ _)
 
 pub loop-t-preserved : goal.loop-t-preserved
-loop-t-preserved c =
-    (
-      search rules,
-      search rules,
-      search rules,
-      search rules,
-      c.put_task.auto.plan ∙ c.loop-t.invariant.4,
-      put_more _ _ _ _ _ _ c.loop-t.invariant.5 c.put_task.ensures,
-    )
+loop-t-preserved c = (
+  search rules,
+  search rules,
+  search rules,
+  search rules,
+  c.put_task.auto.plan ∙ c.loop-t.invariant.4,
+  put_more _ _ _ _ _ _ c.loop-t.invariant.5 c.put_task.ensures,
+)
 
 pub returns : goal.returns
 returns c =

@@ -1,6 +1,5 @@
 -- `put::word`: the bytes put so far are stores one after the other.
 use mathlib.Core.Path.{refl}
-use Prim.Native.Nat.{◌-◌}
 use native.Mathlib.Omega.{arith}
 use borrow.Author.Rules.{rules}
 use Rattle.listing.specs.Laws.Put.{word_more, word_all}

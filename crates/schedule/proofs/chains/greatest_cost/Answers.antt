@@ -1,6 +1,6 @@
 -- `chains::greatest_cost`: before row p the greatest is that of the rows below p; each turn adds one row.
 use mathlib.Core.Path.{◌≡◌, sym, ap, ◌∙◌}
-use Prim.Native.Nat.{ℕ, ◌-◌}
+use Prim.Native.Nat.{ℕ}
 use native.Mathlib.Omega.{arith}
 use borrow.Author.Rules.{rules}
 use Rattle.base.specs.Rows.{most}
@@ -29,7 +29,7 @@ loop-p-preserved c =
       search rules,
       search rules,
       (elim c.if-most-cost.branch [
-        then-most-cost w ↦ one_place _ _ _ _ v.2 (omega (arith, w.if-most-cost.true, w.most-is, cost))
+        | then-most-cost w ↦ one_place _ _ _ _ v.2 (omega (arith, w.if-most-cost.true, w.most-is, cost))
         | else-most-cost w ↦ one_place _ _ _ _ v.2 (omega (arith, w.if-most-cost.false, w.most-is, cost))
       ]),
     )

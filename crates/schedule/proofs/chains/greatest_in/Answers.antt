@@ -1,6 +1,5 @@
 -- `chains::greatest_in`: before place q the greatest is that of the places below q; each turn adds one place.
 use mathlib.Core.Path.{◌≡◌}
-use Prim.Native.Nat.{◌-◌}
 use native.Mathlib.Omega.{arith}
 use borrow.Author.Rules.{rules}
 use Rattle.base.specs.Laws.Most.{none_yet, one_place}
@@ -17,7 +16,7 @@ loop-q-preserved c =
       search rules,
       search rules,
       (elim c.if-most-cost.branch [
-        then-most-cost w ↦ one_place _ _ _ _ v.2 (omega (arith, w.if-most-cost.true, w.most-is))
+        | then-most-cost w ↦ one_place _ _ _ _ v.2 (omega (arith, w.if-most-cost.true, w.most-is))
         | else-most-cost w ↦ one_place _ _ _ _ v.2 (omega (arith, w.if-most-cost.false, w.most-is))
       ]),
     )

@@ -39,7 +39,6 @@ module _ {durations starts processors from to counts : List ℕ} {costs : List (
 
 -- in the loop edge k can be judged
 module _ (w : In-loop-k) where
-
   joins : Joined w.args.durations.now w.args.starts.now w.args.processors.now
       w.args.from.now w.args.to.now w.args.counts.now w.args.costs w.loop-k.k
   joins = w.requires.by_index w.loop-k.k w.loop-k-test.true
@@ -67,12 +66,11 @@ returns-then-starts-t c =
     c.loop-k-test.true c.loop-k.invariant.1 (omega (arith, c.if-starts-t.true))
 
 pub loop-k-preserved : goal.loop-k-preserved
-loop-k-preserved c =
-    (
-      search rules,
-      in_time (joins (goal.at.loop-k-preserved c).In-loop-k) c.index-t.ensures.0 c.index-q.ensures.0 c.of_edge-sent.ensures.arrival_value
-          c.loop-k-test.true c.loop-k.invariant.1 (omega (arith, c.if-starts-t.false)),
-    )
+loop-k-preserved c = (
+  search rules,
+  in_time (joins (goal.at.loop-k-preserved c).In-loop-k) c.index-t.ensures.0 c.index-q.ensures.0 c.of_edge-sent.ensures.arrival_value
+      c.loop-k-test.true c.loop-k.invariant.1 (omega (arith, c.if-starts-t.false)),
+)
 
 pub returns : goal.returns
 returns c =

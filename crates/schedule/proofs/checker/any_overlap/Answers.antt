@@ -3,7 +3,7 @@ use mathlib.Core.Path.{◌≡◌, sym, ◌∙◌}
 use mathlib.Core.Bool.{Bool, true, false}
 use Prim.Native.Nat.{ℕ, ◌+◌, ◌-◌, ◌<◌}
 use borrow.Author.Rules.{rules}
-use Rattle.schedule.specs.Pass.{some_in_places, overlaps_later}
+use Rattle.schedule.specs.Pass.{some_in_places}
 use Rattle.schedule.specs.Laws.Rows.SomeIn.{all_left, none_left, met, passed}
 use Rattle.schedule.proofs.checker.any_overlap.Goals as goal
 
@@ -24,11 +24,10 @@ returns-then-overlaps_later c =
     found _ _ _ c.loop-t-test.true _ _ c.loop-t.invariant.1 c.overlaps_later.ensures c.if-overlaps_later.true
 
 pub loop-t-preserved : goal.loop-t-preserved
-loop-t-preserved c =
-    (
-      search rules,
-      none_found _ _ _ c.loop-t-test.true _ _ c.loop-t.invariant.1 c.overlaps_later.ensures c.if-overlaps_later.false,
-    )
+loop-t-preserved c = (
+  search rules,
+  none_found _ _ _ c.loop-t-test.true _ _ c.loop-t.invariant.1 c.overlaps_later.ensures c.if-overlaps_later.false,
+)
 
 pub returns : goal.returns
 returns c =

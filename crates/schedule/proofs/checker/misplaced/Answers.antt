@@ -37,12 +37,11 @@ returns-then-starts-t-gt600000000 c =
     (omega (arith, c.if-n-index.false)) (omega (arith, c.if-starts-t-gt600000000.true))
 
 pub loop-t-preserved : goal.loop-t-preserved
-loop-t-preserved c =
-    (
-      search rules,
-      neither _ _ _ _ _ c.loop-t-test.true _ _ c.loop-t.invariant.1 c.index.ensures.0
-          (omega (arith, c.if-n-index.false)) (omega (arith, c.if-starts-t-gt600000000.false)),
-    )
+loop-t-preserved c = (
+  search rules,
+  neither _ _ _ _ _ c.loop-t-test.true _ _ c.loop-t.invariant.1 c.index.ensures.0
+      (omega (arith, c.if-n-index.false)) (omega (arith, c.if-starts-t-gt600000000.false)),
+)
 
 pub returns : goal.returns
 returns c =

@@ -109,9 +109,9 @@ loop-u-preserved c =
     let going = c.loop-u.invariant in
     let more = c.loop-u-test.true in
     (elim c.if-processors-u.branch [
-      then-processors-u+then-other-finish+then-start-end w ↦
+      | then-processors-u+then-other-finish+then-start-end w ↦
           one_more going w.found-is more
-              (overlaps _ _ _ _ _ w.if-processors-u.true (omega (arith, w.if-other-finish.true)) w.if-start-end.true)
+          (overlaps _ _ _ _ _ w.if-processors-u.true (omega (arith, w.if-other-finish.true)) w.if-start-end.true)
       | then-processors-u+then-other-finish+else-start-end w ↦
           no_more going w.found-is more (finishes_before _ _ _ _ _ w.if-processors-u.true w.if-other-finish.true w.if-start-end.false)
       | then-processors-u+else-other-finish w ↦

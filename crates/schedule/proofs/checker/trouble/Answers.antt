@@ -10,7 +10,6 @@ use Rattle.schedule.proofs.checker.trouble.Goals.{After-misplaced-number}
 
 -- from the first call on
 module _ (w : After-misplaced-number) where
-
   abbrev arrays : InArrays
   arrays =
       in_number_order w.args.n w.args.tasks w.args.edges w.args.durations.now
@@ -29,7 +28,7 @@ returns-then-number-ne0 c =
 pub any_overlap-overlap-requires : goal.any_overlap-overlap-requires
 any_overlap-overlap-requires c =
     judgeable (fits (goal.at.any_overlap-overlap-requires c).After-misplaced-number) _ _ c.misplaced-number.ensures
-        c.if-number-ne0.false (room (goal.at.any_overlap-overlap-requires c).After-misplaced-number)
+    c.if-number-ne0.false (room (goal.at.any_overlap-overlap-requires c).After-misplaced-number)
 
 pub any_early-early-requires : goal.any_early-early-requires
 any_early-early-requires c =

@@ -2,7 +2,7 @@
 -- result, what would be added is its finish, which is no later than the last.
 use mathlib.Core.Path.{◌≡◌}
 use mathlib.Core.List.{List}
-use Prim.Native.Nat.{ℕ, ◌+◌, ◌*◌, ◌-◌, ◌≤◌, ◌<◌, max}
+use Prim.Native.Nat.{ℕ, ◌+◌, ◌*◌, ◌≤◌, ◌<◌, max}
 use native.Mathlib.Omega.{arith}
 use borrow.Author.Rules.{rules}
 use lib.ListN.{get_or}
@@ -67,7 +67,6 @@ fits h = search (rules, h)
 
 -- in the loop task t is looked at
 module _ (w : In-loop-t) where
-
   abbrev g : Going w.args.tasks w.args.last w.args.durations.now w.args.results.now w.args.costs
       w.args.starts.now w.args.processors.now w.loop-t.end w.loop-t.t
   g = w.loop-t.invariant
@@ -109,8 +108,12 @@ pub overflow_add-arrival-then-count-ne0 : goal.overflow_add-arrival-then-count-n
 overflow_add-arrival-then-count-ne0 c =
     let p-is = c.index-p.ensures.0 in
     let h = c.loop-t-test.true in
-    fits (omega (arith, finished c.requires (g (goal.at.overflow_add-arrival-then-count-ne0 c).In-loop-t) h, near c.requires
-        (g (goal.at.overflow_add-arrival-then-count-ne0 c).In-loop-t) h c.wide16-count.ensures p-is))
+    fits (omega (
+      arith,
+      finished c.requires (g (goal.at.overflow_add-arrival-then-count-ne0 c).In-loop-t) h,
+      near c.requires
+          (g (goal.at.overflow_add-arrival-then-count-ne0 c).In-loop-t) h c.wide16-count.ensures p-is,
+    ))
 
 pub overflow_add-t : goal.overflow_add-t
 overflow_add-t c =
@@ -120,15 +123,15 @@ pub loop-t-preserved : goal.loop-t-preserved
 loop-t-preserved c =
     let h = c.loop-t-test.true in
     (elim c.if-count-ne0.branch [
-      then-count-ne0+then-end-arrival a ↦
+      | then-count-ne0+then-end-arrival a ↦
           later c.requires (g (goal.at.loop-t-preserved c).In-loop-t) h c.wide16-count.ensures a.index-p.ensures.0
-              (omega (arith, a.end-is, a.if-end-arrival.true))
+          (omega (arith, a.end-is, a.if-end-arrival.true))
       | then-count-ne0+else-end-arrival a ↦
           later c.requires (g (goal.at.loop-t-preserved c).In-loop-t) h c.wide16-count.ensures a.index-p.ensures.0
-              (omega (arith, a.end-is, a.if-end-arrival.false))
+          (omega (arith, a.end-is, a.if-end-arrival.false))
       | else-count-ne0 a ↦
           nothing c.requires (g (goal.at.loop-t-preserved c).In-loop-t) h (omega (arith, c.wide16-count.ensures, a.if-count-ne0.false))
-              a.end-is
+          a.end-is
     ])
 
 pub returns : goal.returns

@@ -1,7 +1,7 @@
 -- `least::along_edge`: none serves, the sender's own processor does, or each takes at least what the nearest one takes, and what the tick
 -- asks for.
 use mathlib.Core.Path.{◌≡◌, refl}
-use mathlib.Core.Logic.{◌⊎◌, inl, inr, ⊎_elim}
+use mathlib.Core.Logic.{◌⊎◌, inl, inr}
 use mathlib.Core.List.{List, []}
 use Prim.Native.Nat.{ℕ, ◌+◌, ◌*◌, ◌-◌, ◌≤◌, ◌<◌, max}
 use native.Mathlib.Nat.{mul-le-mul_left}
@@ -116,7 +116,6 @@ module _ {durations from counts : List ℕ} {costs : List (List ℕ)} {starts pr
 -- ---- the places: from where the messages are known as they are sent
 
 module _ (x : After-sent_along-sent) where
-
   abbrev sends : (P : ℕ) → Sender x.args.durations.now x.args.from.now x.args.counts.now
       x.args.costs.now x.args.starts.now x.args.processors.now P x.args.k
   sends = x.requires.by_index
@@ -154,11 +153,10 @@ module _ (x : After-sent_along-sent) where
 
 -- and from where it is known when they are somewhere else at the soonest
 module _ (y : Joined-soonest-latest) where
-
   first_is : y.if-soonest-latest.first ≡ max y.args.latest (y.sent_along-sent.result.finish
       + y.sent_along-sent.result.count * get_or y.args.nearest.now y.sent_along-sent.result.processor 0)
   first_is = elim y.if-soonest-latest.branch [
-    then-soonest-latest w ↦ omega (arith, w.if-soonest-latest.true, w.first-is)
+    | then-soonest-latest w ↦ omega (arith, w.if-soonest-latest.true, w.first-is)
     | else-soonest-latest w ↦ omega (arith, w.if-soonest-latest.false, w.first-is)
   ]
 
@@ -171,7 +169,7 @@ module _ (y : Joined-soonest-latest) where
       → Holds (has y.args.idle y.sent_along-sent.result.processor)
       → entry y.args.costs.now y.sent_along-sent.result.processor y.sent_along-sent.result.processor ≡ 0 → ⊥
   not_there = elim y.if-latest-finish.branch [
-    then-latest-finish+then-idle-p-eq1+else-costs-p-eq0 w ↦ λ h i z. absurd (omega (arith, w.if-costs-p-eq0.false, z))
+    | then-latest-finish+then-idle-p-eq1+else-costs-p-eq0 w ↦ λ h i z. absurd (omega (arith, w.if-costs-p-eq0.false, z))
     | then-latest-finish+else-idle-p-eq1 w ↦ λ h i z. bit_of _ _ w.if-idle-p-eq1.false i
     | else-latest-finish w ↦ λ h i z. absurd (omega (arith, w.if-latest-finish.false))
   ]
@@ -193,17 +191,21 @@ overflow_mul-count c =
 pub overflow_add-finish : goal.overflow_add-finish
 overflow_add-finish c =
     record {
-      fits = omega (arith, most_near (goal.at.overflow_add-finish c).After-sent_along-sent, sent_in_time
-          (goal.at.overflow_add-finish c).After-sent_along-sent);
+      fits = omega (
+        arith,
+        most_near (goal.at.overflow_add-finish c).After-sent_along-sent,
+        sent_in_time
+            (goal.at.overflow_add-finish c).After-sent_along-sent,
+      );
     }
 
 pub returns-then-finish-count : goal.returns-then-finish-count
 returns-then-finish-count c =
     none_serves (sends (goal.at.returns-then-finish-count c).After-sent_along-sent)
-        (costs_are (goal.at.returns-then-finish-count c).After-sent_along-sent)
-            (p_sent (goal.at.returns-then-finish-count c).After-sent_along-sent)
-                (w_sent (goal.at.returns-then-finish-count c).After-sent_along-sent)
-                    (f_sent (goal.at.returns-then-finish-count c).After-sent_along-sent) _ _ (omega (arith, c.if-finish-count.true))
+    (costs_are (goal.at.returns-then-finish-count c).After-sent_along-sent)
+    (p_sent (goal.at.returns-then-finish-count c).After-sent_along-sent)
+    (w_sent (goal.at.returns-then-finish-count c).After-sent_along-sent)
+    (f_sent (goal.at.returns-then-finish-count c).After-sent_along-sent) _ _ (omega (arith, c.if-finish-count.true))
 
 pub overflow_cast-p : goal.overflow_cast-p
 overflow_cast-p c =
@@ -232,8 +234,11 @@ offset_bounds-nearest-p c =
 
 pub bounds-nearest-p : goal.bounds-nearest-p
 bounds-nearest-p c =
-    omega (arith, small (goal.at.bounds-nearest-p c).After-sent_along-sent,
-        (costs_are (goal.at.bounds-nearest-p c).After-sent_along-sent).has_nearest)
+    omega (
+      arith,
+      small (goal.at.bounds-nearest-p c).After-sent_along-sent,
+      (costs_are (goal.at.bounds-nearest-p c).After-sent_along-sent).has_nearest,
+    )
 
 pub overflow_mul-soonest : goal.overflow_mul-soonest
 overflow_mul-soonest c =
@@ -242,8 +247,12 @@ overflow_mul-soonest c =
 pub overflow_add-soonest : goal.overflow_add-soonest
 overflow_add-soonest c =
     record {
-      fits = omega (arith, nearest_near (goal.at.overflow_add-soonest c).After-sent_along-sent, sent_in_time
-          (goal.at.overflow_add-soonest c).After-sent_along-sent);
+      fits = omega (
+        arith,
+        nearest_near (goal.at.overflow_add-soonest c).After-sent_along-sent,
+        sent_in_time
+            (goal.at.overflow_add-soonest c).After-sent_along-sent,
+      );
     }
 
 pub offset_bounds-costs-p : goal.offset_bounds-costs-p
@@ -261,28 +270,38 @@ overflow_sub-first c =
 pub overflow_add-before : goal.overflow_add-before
 overflow_add-before c =
     record {
-      fits = omega (arith, first_is (goal.at.overflow_add-before c).Joined-soonest-latest, served_most
-          (goal.at.overflow_add-before c).Joined-soonest-latest, most_near (goal.at.overflow_add-before c).After-sent_along-sent,
-              nearest_near (goal.at.overflow_add-before c).After-sent_along-sent, c.requires.k_in_bounds.3);
+      fits = omega (
+        arith,
+        first_is (goal.at.overflow_add-before c).Joined-soonest-latest,
+        served_most
+            (goal.at.overflow_add-before c).Joined-soonest-latest,
+        most_near (goal.at.overflow_add-before c).After-sent_along-sent,
+        nearest_near (goal.at.overflow_add-before c).After-sent_along-sent,
+        c.requires.k_in_bounds.3,
+      );
     }
 
 pub through-requires : goal.through-requires
 through-requires c =
     let S = sends (goal.at.through-requires c).After-sent_along-sent in
     record {
-      row_len = (search rules, c.requires.k_in_bounds.2, sent_in_time (goal.at.through-requires c).After-sent_along-sent,
-          c.requires.k_in_bounds.3);
+      row_len = (
+        search rules,
+        c.requires.k_in_bounds.2,
+        sent_in_time (goal.at.through-requires c).After-sent_along-sent,
+        c.requires.k_in_bounds.3,
+      );
       by_index = λ P. time_most (S P) (p_sent (goal.at.through-requires c).After-sent_along-sent)
           (w_sent (goal.at.through-requires c).After-sent_along-sent);
       by_index_2 = no_less S (costs_are (goal.at.through-requires c).After-sent_along-sent)
           (p_sent (goal.at.through-requires c).After-sent_along-sent) (w_sent (goal.at.through-requires c).After-sent_along-sent)
-              (f_sent (goal.at.through-requires c).After-sent_along-sent)
-                  (not_there (goal.at.through-requires c).Joined-soonest-latest) _
-                      (first_is (goal.at.through-requires c).Joined-soonest-latest);
+          (f_sent (goal.at.through-requires c).After-sent_along-sent)
+          (not_there (goal.at.through-requires c).Joined-soonest-latest) _
+          (first_is (goal.at.through-requires c).Joined-soonest-latest);
     }
 
 pub returns : goal.returns
 returns c =
     as_sent (sends (goal.at.returns c).After-sent_along-sent) (costs_are (goal.at.returns c).After-sent_along-sent)
-        (p_sent (goal.at.returns c).After-sent_along-sent) (w_sent (goal.at.returns c).After-sent_along-sent)
-            (f_sent (goal.at.returns c).After-sent_along-sent) _ c.through.ensures
+    (p_sent (goal.at.returns c).After-sent_along-sent) (w_sent (goal.at.returns c).After-sent_along-sent)
+    (f_sent (goal.at.returns c).After-sent_along-sent) _ c.through.ensures

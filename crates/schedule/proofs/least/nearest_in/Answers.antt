@@ -2,7 +2,7 @@
 use mathlib.Core.Path.{◌≡◌}
 use mathlib.Core.Logic.{◌⊎◌, inl, inr}
 use mathlib.Core.List.{List}
-use Prim.Native.Nat.{ℕ, ◌+◌, ◌-◌, ◌≤◌, ◌<◌}
+use Prim.Native.Nat.{ℕ, ◌+◌, ◌≤◌, ◌<◌}
 use native.Mathlib.Omega.{arith}
 use borrow.Author.Rules.{rules}
 use lib.ListN.{get_or}
@@ -33,7 +33,7 @@ loop-q-preserved c =
       search rules,
       search rules,
       (elim c.if-q-p.branch [
-        then-q-p+then-cost-least w ↦ one_more v.2 (omega (arith, w.if-cost-least.true, w.least-is)) (λ d. omega (arith, w.least-is))
+        | then-q-p+then-cost-least w ↦ one_more v.2 (omega (arith, w.if-cost-least.true, w.least-is)) (λ d. omega (arith, w.least-is))
         | then-q-p+else-cost-least w ↦ one_more v.2 (omega (arith, w.least-is)) (λ d. omega (arith, w.if-cost-least.false, w.least-is))
         | else-q-p+else-cost-ne0 w ↦ one_more v.2 (omega (arith, w.least-is))
             (λ d. absurd (d (omega (arith, w.if-q-p.false), omega (arith, w.if-cost-ne0.false))))

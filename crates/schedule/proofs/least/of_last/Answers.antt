@@ -1,6 +1,5 @@
 -- `least::of_last`: the latest finish of the tasks before t, and the smallest sum of those that have it.
 use mathlib.Core.Path.{◌≡◌}
-use Prim.Native.Nat.{◌+◌, ◌-◌}
 use native.Mathlib.Omega.{arith}
 use borrow.Author.Rules.{rules}
 use Rattle.schedule.proofs.least.of_last.Invariants.{begun, carried, done, alone, lower, higher}
@@ -21,15 +20,16 @@ loop-t-preserved c =
     let given = c.requires.by_index c.loop-t.t (search rules) in
     let g = c.loop-t.invariant.1 in (
       search rules,
-      (elim c.if-end-finish.branch
-          [ then-end-finish w ↦ carried _ _ w.end-is w.least-is (alone _ _ g (omega (arith, w.if-end-finish.true))) |
-              else-end-finish+then-finish-end+then-sums-t w ↦ carried _ _ w.end-is w.least-is
-          (lower _ _ g (omega (arith, w.if-finish-end.true)) (omega (arith, w.if-finish-end.true)) (omega (arith, w.if-sums-t.true))) |
-              else-end-finish+then-finish-end+else-sums-t w ↦ carried _ _ w.end-is w.least-is
-          (higher _ _ g (omega (arith, w.if-end-finish.false)) (omega (arith, given.0)) (λ e. omega (arith, w.if-sums-t.false))) |
-              else-end-finish+else-finish-end w ↦ carried _ _ w.end-is w.least-is
-          (higher _ _ g (omega (arith, w.if-end-finish.false)) (omega (arith, given.0))
-              (λ e. absurd (omega (arith, e, w.if-finish-end.false)))) ]),
+      (elim c.if-end-finish.branch [
+        | then-end-finish w ↦ carried _ _ w.end-is w.least-is (alone _ _ g (omega (arith, w.if-end-finish.true)))
+        | else-end-finish+then-finish-end+then-sums-t w ↦ carried _ _ w.end-is w.least-is
+            (lower _ _ g (omega (arith, w.if-finish-end.true)) (omega (arith, w.if-finish-end.true)) (omega (arith, w.if-sums-t.true)))
+        | else-end-finish+then-finish-end+else-sums-t w ↦ carried _ _ w.end-is w.least-is
+            (higher _ _ g (omega (arith, w.if-end-finish.false)) (omega (arith, given.0)) (λ e. omega (arith, w.if-sums-t.false)))
+        | else-end-finish+else-finish-end w ↦ carried _ _ w.end-is w.least-is
+            (higher _ _ g (omega (arith, w.if-end-finish.false)) (omega (arith, given.0))
+            (λ e. absurd (omega (arith, e, w.if-finish-end.false))))
+      ]),
     )
 
 pub returns : goal.returns

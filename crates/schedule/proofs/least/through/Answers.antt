@@ -1,7 +1,7 @@
 -- `least::through`: the processors that are no longer in `rest` were looked at.
 -- A turn looks at the lowest of `rest`, and takes it out; none is left to look at where the bound is reached.
 use mathlib.Core.Path.{◌≡◌, refl}
-use Prim.Native.Nat.{ℕ, ◌+◌, ◌*◌, ◌-◌, ◌≤◌, ◌<◌}
+use Prim.Native.Nat.{ℕ, ◌*◌, ◌≤◌, ◌<◌}
 use native.Mathlib.Omega.{arith}
 use borrow.Author.Rules.{rules}
 use lib.Count.{count_trailing_zeros, trailing_le}
@@ -15,8 +15,6 @@ use Rattle.schedule.proofs.least.through.Goals.{then-latest-finish+then-sum-leas
 -- ---- in the loop
 
 module _ (x : Else-least-bound) where
-
-
   some_left : 0 < x.loop-rest.rest
   some_left = search rules
 
@@ -76,7 +74,7 @@ loop-rest-preserved c =
     let n = some_left (goal.at.loop-rest-preserved c).Else-least-bound in
     turn _ _ _ _ _ _ g n
     ((elim c.if-latest-finish.branch [
-      then-latest-finish+then-sum-least v ↦
+      | then-latest-finish+then-sum-least v ↦
           lower _ _ _ _ _ _ g n refl refl (omega (arith, v.if-latest-finish.true)) (omega (arith, v.if-sum-least.true)) v.least-is
       | then-latest-finish+else-sum-least v ↦ no_lower _ _ _ _ _ _ g n refl refl (omega (arith, v.if-sum-least.false)) v.least-is
       | else-latest-finish v ↦ too_early _ _ _ _ _ _ g n refl refl (omega (arith, v.if-latest-finish.false)) v.least-is

@@ -1,7 +1,6 @@
 -- `least::unwalked`: the entries before t are set.
 use mathlib.Core.Path.{refl}
 use mathlib.Core.Logic.{inl, inr}
-use Prim.Native.Nat.{◌-◌}
 use native.Mathlib.Omega.{arith}
 use borrow.Author.Rules.{rules}
 use Rattle.schedule.specs.Laws.Rows.Entry.{stored}
@@ -17,7 +16,7 @@ pub loop-t-preserved : goal.loop-t-preserved
 loop-t-preserved c =
     turn _ c.loop-t.invariant (search rules) (stored (search rules) refl)
     ((elim c.if-idle-t-eq0.branch [
-      then-idle-t-eq0 w ↦ inr (omega (arith, w.if-idle-t-eq0.true), w.first-is)
+      | then-idle-t-eq0 w ↦ inr (omega (arith, w.if-idle-t-eq0.true), w.first-is)
       | else-idle-t-eq0 w ↦ inl (omega (arith, w.if-idle-t-eq0.false), w.first-is)
     ]))
 

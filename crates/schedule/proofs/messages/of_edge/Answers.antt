@@ -11,7 +11,6 @@ use Rattle.schedule.proofs.messages.of_edge.Goals.{After-sent_along-sent}
 -- ---- from where the messages are known as they are sent
 
 module _ (x : After-sent_along-sent) where
-
   sender : Sender x.args.durations.now x.args.from.now x.args.counts.now x.args.costs.now
       x.args.starts.now x.args.processors.now x.args.q x.args.k
   sender = x.requires.sender
@@ -40,8 +39,12 @@ overflow_mul-time c =
 pub overflow_add-result : goal.overflow_add-result
 overflow_add-result c =
     record {
-      fits = omega (arith, takes_most (goal.at.overflow_add-result c).After-sent_along-sent, sent_most
-          (sender (goal.at.overflow_add-result c).After-sent_along-sent) c.sent_along-sent.ensures.finish_value);
+      fits = omega (
+        arith,
+        takes_most (goal.at.overflow_add-result c).After-sent_along-sent,
+        sent_most
+            (sender (goal.at.overflow_add-result c).After-sent_along-sent) c.sent_along-sent.ensures.finish_value,
+      );
     }
 
 pub returns : goal.returns

@@ -1,7 +1,7 @@
 -- `planner::choose`: the loop keeps that the search over the tasks that are left, from the best so far, gives the answer.
 -- Nothing that is left beats a pair that starts at the clock.
 use mathlib.Core.Path.{refl, sym, ◌∙◌}
-use Prim.Native.Nat.{◌-◌, ◌<◌}
+use Prim.Native.Nat.{◌<◌}
 use native.Mathlib.Omega.{arith}
 use borrow.Author.Rules.{rules}
 use Rattle.schedule.specs.Pass.{OrderIn}
@@ -15,7 +15,6 @@ use Rattle.schedule.proofs.planner.choose.Goals.{then-waiting-t-eq0+then-latest-
 -- ---- what is known in the loop
 
 module _ (q : In-loop-i) where
-
   abbrev ordered : OrderIn q.args.tasks q.args.order.now
   ordered = q.requires.order_in
 
@@ -67,13 +66,15 @@ returns-then-best-clock c =
 pub loop-i-preserved : goal.loop-i-preserved
 loop-i-preserved c =
     let v = c.loop-i.invariant in
-    (elim c.if-waiting-t-eq0.branch
-        [ then-waiting-t-eq0+then-latest-t+else-best-clock w ↦ from_same _ _ _ _ _ _ _ _ _ _ w.best-is (search rules) w.if-best-clock.false
-    (from_tried _ _ _ _ _ _ _ _ _ (search rules) v.2 w.if-waiting-t-eq0.true w.if-latest-t.true _ w.try_task-best.ensures) |
-        then-waiting-t-eq0+else-latest-t w ↦ from_same _ _ _ _ _ _ _ _ _ _ w.best-is (search rules) v.1
-    (from_unfinished _ _ _ _ _ _ _ _ _ (search rules) v.2 w.if-waiting-t-eq0.true w.if-latest-t.false) | else-waiting-t-eq0 w
-        ↦ from_same _ _ _ _ _ _ _ _ _ _ w.best-is (search rules) v.1
-    (from_waits _ _ _ _ _ _ _ _ _ (search rules) v.2 w.if-waiting-t-eq0.false) ])
+    (elim c.if-waiting-t-eq0.branch [
+      | then-waiting-t-eq0+then-latest-t+else-best-clock w ↦ from_same _ _ _ _ _ _ _ _ _ _ w.best-is (search rules) w.if-best-clock.false
+          (from_tried _ _ _ _ _ _ _ _ _ (search rules) v.2 w.if-waiting-t-eq0.true w.if-latest-t.true _ w.try_task-best.ensures)
+      | then-waiting-t-eq0+else-latest-t w ↦ from_same _ _ _ _ _ _ _ _ _ _ w.best-is (search rules) v.1
+          (from_unfinished _ _ _ _ _ _ _ _ _ (search rules) v.2 w.if-waiting-t-eq0.true w.if-latest-t.false)
+      | else-waiting-t-eq0 w
+          ↦ from_same _ _ _ _ _ _ _ _ _ _ w.best-is (search rules) v.1
+          (from_waits _ _ _ _ _ _ _ _ _ (search rules) v.2 w.if-waiting-t-eq0.false)
+    ])
 
 pub returns : goal.returns
 returns c =

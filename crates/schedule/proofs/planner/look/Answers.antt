@@ -26,10 +26,15 @@ looked {busy = busy} {clock = clock} surveyed e next found = record {
 pub choose-pair-requires : goal.choose-pair-requires
 choose-pair-requires c =
     let surveyed = c.survey-moment.ensures in
-    let few : c.args.n ≤ 16 = search rules in record { clock_bound = search rules; waiting_len = search rules; count_in_bounds = (
-            omega (arith, surveyed.few, few, c.requires.order_in.1, c.survey-moment.auto.free),
-            λ i h. omega (arith, few, free_below _ _ _ _ _ surveyed i h),
-          ); order_in = c.requires.order_in.0 }
+    let few : c.args.n ≤ 16 = search rules in record {
+      clock_bound = search rules;
+      waiting_len = search rules;
+      count_in_bounds = (
+        omega (arith, surveyed.few, few, c.requires.order_in.1, c.survey-moment.auto.free),
+        λ i h. omega (arith, few, free_below _ _ _ _ _ surveyed i h),
+      );
+      order_in = c.requires.order_in.0;
+    }
 
 pub returns : goal.returns
 returns c =

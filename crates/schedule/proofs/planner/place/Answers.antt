@@ -66,12 +66,11 @@ send-requires c =
     to_send c.requires.to_place c.put.ensures.waiting_after
 
 pub skip-requires : goal.skip-requires
-skip-requires c =
-    (
-      c.requires.to_place.low_most,
-      to_skip c.requires.to_place c.put.ensures.waiting_after c.send.auto.waiting,
-      c.requires.order_in,
-    )
+skip-requires c = (
+  c.requires.to_place.low_most,
+  to_skip c.requires.to_place c.put.ensures.waiting_after c.send.auto.waiting,
+  c.requires.order_in,
+)
 
 pub shape_of-starts : goal.shape_of-starts
 shape_of-starts c = c.put.auto.starts
@@ -94,5 +93,5 @@ shape_of-busy c = c.put.auto.busy
 pub returns : goal.returns
 returns c =
     together c.requires.to_place c.put.ensures.waiting_after c.put.ensures.starts_after c.put.ensures.processors_after
-        c.put.ensures.busy_after c.send.ensures
+    c.put.ensures.busy_after c.send.ensures
     c.skip.ensures

@@ -2,7 +2,7 @@
 use mathlib.Core.Path.{◌≡◌, refl, ◌∙◌}
 use mathlib.Core.Logic.{◌⊎◌, inl, inr}
 use mathlib.Core.List.{List}
-use Prim.Native.Nat.{ℕ, ◌+◌, ◌*◌, ◌-◌, ◌≤◌, ◌<◌, max}
+use Prim.Native.Nat.{ℕ, ◌+◌, ◌*◌, ◌≤◌, ◌<◌, max}
 use native.Mathlib.Omega.{arith}
 use borrow.Author.Rules.{rules}
 use lib.ListN.{length, get_or, set, length-set}
@@ -63,7 +63,7 @@ loop-p-preserved c =
     ≡ max (get_or c.loop-p.arrivals (16 * args.task + c.loop-p.p) 0)
     (args.finish + args.count * get_or args.row.now c.loop-p.p 0) =
     (elim c.if-before-arrival.branch [
-      then-before-arrival w ↦ w.arrivals-is ∙ later _ _ w.if-before-arrival.true
+      | then-before-arrival w ↦ w.arrivals-is ∙ later _ _ w.if-before-arrival.true
       | else-before-arrival w ↦ w.arrivals-is ∙ not_later _ _ w.if-before-arrival.false
     ]) in
     let r = raises _ _ _ _ _ _ _ v.2 _ stored (search rules) in

@@ -5,13 +5,11 @@ use Prim.Native.Nat.{ℕ, ◌+◌, ◌*◌, ◌-◌, ◌≤◌, ◌<◌}
 use native.Mathlib.Nat.{le_of_lt}
 use native.Mathlib.Omega.{arith}
 use borrow.Author.Rules.{below_length}
-use lib.ListN.{get_or}
 use mir.Facts.{Fits-below}
 use Rattle.base.specs.Laws.Lists.{zeros_at}
 use Rattle.graph.specs.Graph.{Runs}
 use Rattle.graph.specs.Laws.Rising.{runs_of}
 use Rattle.graph.specs.Laws.ByPlace.{counts_at}
-use Rattle.etf.specs.Bounds.{most_finish}
 use Rattle.schedule.specs.declared.planner.Pair.{Pair}
 use Rattle.schedule.specs.InArrays.{InArrays, in_given_order, Plannable}
 use Rattle.schedule.specs.Pass.{OrderIn, Room, Tables, ToPlace, Placed, tables, inbox}
@@ -55,7 +53,6 @@ module _ {pair : Pair} {finish low m n : ℕ} {row to counts : List ℕ} {S : Ta
 -- ---- what is known at the loop
 
 module _ (a : At-loop-low) where
-
   abbrev A : InArrays
   A = in_given_order a.args.order.now a.args.n a.args.tasks a.args.edges a.args.durations.now
       a.args.from.now a.args.to.now a.args.counts.now a.args.costs
@@ -85,9 +82,11 @@ module _ (q : In-loop-low) where
 pub loop-low-init : goal.loop-low-init
 loop-low-init c =
     let F = c.requires.plannable in
-    let counted = counts_at _ _ (edges_there F).1 (omega (arith, F.few_edges)) c.counts-waiting.ensures in
-    (refl, holds_first c.requires.plannable c.requires.tasks_in_bounds.1 refl refl refl counted.0 counted.1 refl (zeros_at 256) refl
-        (zeros_at 16))
+    let counted = counts_at _ _ (edges_there F).1 (omega (arith, F.few_edges)) c.counts-waiting.ensures in (
+      refl,
+      holds_first c.requires.plannable c.requires.tasks_in_bounds.1 refl refl refl counted.0 counted.1 refl (zeros_at 256) refl
+          (zeros_at 16),
+    )
 
 pub slice_bounds-look-end : goal.slice_bounds-look-end
 slice_bounds-look-end c =
@@ -109,11 +108,21 @@ pub look-choice-requires : goal.look-choice-requires
 look-choice-requires c =
     let Y = c.loop-low.invariant.1 in
     record {
-      n_bound = ((given (goal.at.look-choice-requires c).At-loop-low).few_processors, clock_small
-          (given (goal.at.look-choice-requires c).At-loop-low) (room (goal.at.look-choice-requires c).At-loop-low) Y, le_of_lt
-              (remain (goal.at.look-choice-requires c).In-loop-low), (given (goal.at.look-choice-requires c).At-loop-low).few_tasks);
-      busy_len = (Y.busy_size, Y.waiting_size, Y.latest_size, arrivals_room (given (goal.at.look-choice-requires c).At-loop-low)
-          (room (goal.at.look-choice-requires c).At-loop-low) Y);
+      n_bound = (
+        (given (goal.at.look-choice-requires c).At-loop-low).few_processors,
+        clock_small
+            (given (goal.at.look-choice-requires c).At-loop-low) (room (goal.at.look-choice-requires c).At-loop-low) Y,
+        le_of_lt
+            (remain (goal.at.look-choice-requires c).In-loop-low),
+        (given (goal.at.look-choice-requires c).At-loop-low).few_tasks,
+      );
+      busy_len = (
+        Y.busy_size,
+        Y.waiting_size,
+        Y.latest_size,
+        arrivals_room (given (goal.at.look-choice-requires c).At-loop-low)
+            (room (goal.at.look-choice-requires c).At-loop-low) Y,
+      );
       order_in = (ordered (goal.at.look-choice-requires c).At-loop-low, c.loop-low.invariant.0);
     }
 
@@ -147,47 +156,53 @@ slice_bounds-place-end-then-pair-next-2 c =
 
 pub place-low-requires : goal.place-low-requires
 place-low-requires c =
-    record { to_place = asked_of c.finish-done.ensures.first_value c.finish-done.ensures.last_value
+    record {
+      to_place = asked_of c.finish-done.ensures.first_value c.finish-done.ensures.last_value
           (to_place (given (goal.at.place-low-requires c).At-loop-low) (room (goal.at.place-low-requires c).At-loop-low)
-              c.loop-low.invariant.1 (remain (goal.at.place-low-requires c).In-loop-low) c.look-choice.ensures
-                  (omega (arith, c.if-pair-next.true)) (edge_runs (goal.at.place-low-requires c).At-loop-low)
-                      c.finish-done.ensures.finish_value); order_in = ordered (goal.at.place-low-requires c).At-loop-low }
+          c.loop-low.invariant.1 (remain (goal.at.place-low-requires c).In-loop-low) c.look-choice.ensures
+          (omega (arith, c.if-pair-next.true)) (edge_runs (goal.at.place-low-requires c).At-loop-low)
+          c.finish-done.ensures.finish_value);
+      order_in = ordered (goal.at.place-low-requires c).At-loop-low;
+    }
 
 pub overflow_add-rounds : goal.overflow_add-rounds
 overflow_add-rounds c =
     Fits-below tt (rounds_small _ _
-        (more_rounds (given (goal.at.overflow_add-rounds c).At-loop-low) (room (goal.at.overflow_add-rounds c).At-loop-low)
-            c.loop-low.invariant.1 (remain (goal.at.overflow_add-rounds c).In-loop-low))
-                (given (goal.at.overflow_add-rounds c).At-loop-low).few_tasks)
+    (more_rounds (given (goal.at.overflow_add-rounds c).At-loop-low) (room (goal.at.overflow_add-rounds c).At-loop-low)
+    c.loop-low.invariant.1 (remain (goal.at.overflow_add-rounds c).In-loop-low))
+    (given (goal.at.overflow_add-rounds c).At-loop-low).few_tasks)
 
 pub loop-low-smaller : goal.loop-low-smaller
 loop-low-smaller c =
     rounds_left _ _ (more_rounds (given (goal.at.loop-low-smaller c).At-loop-low) (room (goal.at.loop-low-smaller c).At-loop-low)
-        c.loop-low.invariant.1 (remain (goal.at.loop-low-smaller c).In-loop-low))
+    c.loop-low.invariant.1 (remain (goal.at.loop-low-smaller c).In-loop-low))
 
 pub loop-low-preserved : goal.loop-low-preserved
 loop-low-preserved c =
     let found = c.look-choice.ensures in
     let runs = edge_runs (goal.at.loop-low-preserved c).At-loop-low in (
       c.look-choice.auto.free ∙ c.loop-low.invariant.0,
-      (elim c.if-pair-next.branch [ then-pair-next+then-end-done w ↦ carried
-          (holds_placed (given (goal.at.loop-low-preserved c).At-loop-low) (room (goal.at.loop-low-preserved c).At-loop-low)
-              c.loop-low.invariant.1 (remain (goal.at.loop-low-preserved c).In-loop-low) found (omega (arith, w.if-pair-next.true))
-                  runs w.finish-done.ensures.finish_value
-          (placed_of w.finish-done.ensures.first_value w.finish-done.ensures.last_value w.place-low.ensures)
-              (later _ _ w.if-end-done.true) w.place-low.auto.arrivals w.place-low.auto.waiting w.place-low.auto.latest)
-          w.starts-is w.processors-is w.arrivals-is w.waiting-is w.latest-is w.busy-is w.clock-is w.end-is w.low-is |
-              then-pair-next+else-end-done w ↦ carried
-          (holds_placed (given (goal.at.loop-low-preserved c).At-loop-low) (room (goal.at.loop-low-preserved c).At-loop-low)
-              c.loop-low.invariant.1 (remain (goal.at.loop-low-preserved c).In-loop-low) found (omega (arith, w.if-pair-next.true))
-                  runs w.finish-done.ensures.finish_value
-          (placed_of w.finish-done.ensures.first_value w.finish-done.ensures.last_value w.place-low.ensures)
-              (not_later _ _ w.if-end-done.false) w.place-low.auto.arrivals w.place-low.auto.waiting w.place-low.auto.latest)
-          w.starts-is w.processors-is w.arrivals-is w.waiting-is w.latest-is w.busy-is w.clock-is w.end-is w.low-is | else-pair-next w
-              ↦ carried (holds_moved (given (goal.at.loop-low-preserved c).At-loop-low)
-                  (room (goal.at.loop-low-preserved c).At-loop-low) c.loop-low.invariant.1
-                      (remain (goal.at.loop-low-preserved c).In-loop-low) found (omega (arith, w.if-pair-next.false)))
-          w.starts-is w.processors-is w.arrivals-is w.waiting-is w.latest-is w.busy-is w.clock-is w.end-is w.low-is ]),
+      (elim c.if-pair-next.branch [
+        | then-pair-next+then-end-done w ↦ carried
+            (holds_placed (given (goal.at.loop-low-preserved c).At-loop-low) (room (goal.at.loop-low-preserved c).At-loop-low)
+            c.loop-low.invariant.1 (remain (goal.at.loop-low-preserved c).In-loop-low) found (omega (arith, w.if-pair-next.true))
+            runs w.finish-done.ensures.finish_value
+            (placed_of w.finish-done.ensures.first_value w.finish-done.ensures.last_value w.place-low.ensures)
+            (later _ _ w.if-end-done.true) w.place-low.auto.arrivals w.place-low.auto.waiting w.place-low.auto.latest)
+            w.starts-is w.processors-is w.arrivals-is w.waiting-is w.latest-is w.busy-is w.clock-is w.end-is w.low-is
+        | then-pair-next+else-end-done w ↦ carried
+            (holds_placed (given (goal.at.loop-low-preserved c).At-loop-low) (room (goal.at.loop-low-preserved c).At-loop-low)
+            c.loop-low.invariant.1 (remain (goal.at.loop-low-preserved c).In-loop-low) found (omega (arith, w.if-pair-next.true))
+            runs w.finish-done.ensures.finish_value
+            (placed_of w.finish-done.ensures.first_value w.finish-done.ensures.last_value w.place-low.ensures)
+            (not_later _ _ w.if-end-done.false) w.place-low.auto.arrivals w.place-low.auto.waiting w.place-low.auto.latest)
+            w.starts-is w.processors-is w.arrivals-is w.waiting-is w.latest-is w.busy-is w.clock-is w.end-is w.low-is
+        | else-pair-next w
+            ↦ carried (holds_moved (given (goal.at.loop-low-preserved c).At-loop-low)
+            (room (goal.at.loop-low-preserved c).At-loop-low) c.loop-low.invariant.1
+            (remain (goal.at.loop-low-preserved c).In-loop-low) found (omega (arith, w.if-pair-next.false)))
+            w.starts-is w.processors-is w.arrivals-is w.waiting-is w.latest-is w.busy-is w.clock-is w.end-is w.low-is
+      ]),
     )
 
 pub shape_of-starts : goal.shape_of-starts
@@ -205,4 +220,4 @@ shape_of-arrivals c =
 pub returns : goal.returns
 returns c =
     holds_last (given (goal.at.returns c).At-loop-low) (room (goal.at.returns c).At-loop-low) c.loop-low.invariant.1
-        (omega (arith, c.loop-low-test.false))
+    (omega (arith, c.loop-low-test.false))

@@ -11,7 +11,7 @@ use Rattle.schedule.proofs.planner.run.Given as goal
 abbrev pub invariant-loop-low : goal.invariant-loop-low
 invariant-loop-low l = (length l.free ≡ 16) × Invariant
     (in_given_order l.order l.n l.tasks l.edges l.durations l.from l.to l.counts l.costs) l.initial.starts l.initial.processors
-        l.initial.arrivals
+    l.initial.arrivals
     (tables l.starts l.processors l.busy (inbox l.arrivals l.waiting l.latest)) l.clock l.end l.low l.rounds
 
 abbrev pub decreases-loop-low : goal.decreases-loop-low

@@ -39,8 +39,13 @@ module _ (first finish n : ℕ) (row to counts : List ℕ) where
         where
           go : (t ≡ T) ⊎ (t ≡ T → ⊥) → get_or after (16 * T + P) 0 ≡ max (get_or arrivals (16 * T + P) 0) (most (k + 1) (sent T P))
           go (inl q) =
-              omega (arith, s, rw q at (r.in_row P p), most_sent to first T k h (λ i. finish + get_or counts i 0 * get_or row P 0)
-                  (sym e ∙ q))
+              omega (
+                arith,
+                s,
+                rw q at (r.in_row P p),
+                most_sent to first T k h (λ i. finish + get_or counts i 0 * get_or row P 0)
+                    (sym e ∙ q),
+              )
           go (inr q) =
               let u = unraised n t finish (get_or counts k 0) row now after r few T P (omega arith) q in
               omega (arith, s, u, most_kept to first T k (λ i. finish + get_or counts i 0 * get_or row P 0) (λ z. q (e ∙ z)))

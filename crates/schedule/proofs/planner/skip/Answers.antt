@@ -1,5 +1,5 @@
 -- `planner::skip`: the task of every place passed so far is marked as placed.
-use Prim.Native.Nat.{◌-◌, ◌<◌}
+use Prim.Native.Nat.{◌<◌}
 use native.Mathlib.Omega.{arith}
 use borrow.Author.Rules.{rules}
 use Rattle.schedule.specs.Pass.{OrderIn}
@@ -11,7 +11,6 @@ use Rattle.schedule.proofs.planner.skip.Goals.{In-loop-i}
 -- ---- what is known in the loop
 
 module _ (q : In-loop-i) where
-
   abbrev ordered : OrderIn q.args.tasks q.args.order.now
   ordered = q.requires.2
 

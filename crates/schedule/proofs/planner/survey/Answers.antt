@@ -1,7 +1,7 @@
 -- `planner::survey`: the loop keeps the next moment and the free processors among those looked at; a turn adds one processor to each.
 use mathlib.Core.Path.{◌≡◌, refl, sym, ◌∙◌}
 use mathlib.Core.List.{List, [], ◌∷◌, ◌++◌, append-nil}
-use Prim.Native.Nat.{ℕ, ◌+◌, ◌-◌, ◌≤◌, ◌<◌, min}
+use Prim.Native.Nat.{ℕ, ◌+◌, ◌≤◌, ◌<◌, min}
 use native.Mathlib.Numerals.{add-one}
 use native.Mathlib.Omega.{arith}
 use borrow.Author.Rules.{rules}
@@ -90,15 +90,15 @@ pub loop-p-preserved : goal.loop-p-preserved
 loop-p-preserved c =
     let g = c.loop-p.invariant in
     (elim c.if-finish-clock.branch [
-      then-finish-clock w ↦
+      | then-finish-clock w ↦
           same _ _ _ _ _ _ _ _ _ _ w.free-is w.next-is w.count-is
-              (idle _ _ _ _ _ _ _ g (search rules) (search rules) w.if-finish-clock.true)
+          (idle _ _ _ _ _ _ _ g (search rules) (search rules) w.if-finish-clock.true)
       | else-finish-clock+then-finish-next w ↦
           same _ _ _ _ _ _ _ _ _ _ w.free-is w.next-is w.count-is
-              (sooner _ _ _ _ _ _ _ g (search rules) (search rules) w.if-finish-clock.false w.if-finish-next.true)
+          (sooner _ _ _ _ _ _ _ g (search rules) (search rules) w.if-finish-clock.false w.if-finish-next.true)
       | else-finish-clock+else-finish-next w ↦
           same _ _ _ _ _ _ _ _ _ _ w.free-is w.next-is w.count-is
-              (later _ _ _ _ _ _ _ g (search rules) (search rules) w.if-finish-clock.false w.if-finish-next.false)
+          (later _ _ _ _ _ _ _ g (search rules) (search rules) w.if-finish-clock.false w.if-finish-next.false)
     ])
 
 pub returns : goal.returns

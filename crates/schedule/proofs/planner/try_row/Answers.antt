@@ -1,7 +1,6 @@
 -- `planner::try_row`: the loop keeps that the best so far, tried against the processors that are left, gives the answer.
 -- Nothing that is left beats a pair that starts at the clock.
 use mathlib.Core.Path.{refl, ap, sym, ◌∙◌}
-use Prim.Native.Nat.{◌-◌}
 use native.Mathlib.Omega.{arith}
 use borrow.Author.Rules.{rules}
 use Rattle.schedule.specs.Pass.{first_best}
@@ -29,11 +28,13 @@ returns-then-arrival-clock c =
 
 pub loop-i-preserved : goal.loop-i-preserved
 loop-i-preserved c =
-    (elim c.if-arrival-best.branch
-        [ then-arrival-best w ↦ sooner _ _ _ _ _ _ _ refl (search rules) _ _ _ c.loop-i.invariant.1 c.loop-i.invariant.2
-    c.if-arrival-clock.false (omega (arith, w.if-arrival-best.true)) w.best-is | else-arrival-best w ↦ later _ _ _ _ _ _ _ refl
-        (search rules) _ _ _ c.loop-i.invariant.1 c.loop-i.invariant.2
-    c.if-arrival-clock.false (omega (arith, w.if-arrival-best.false)) w.best-is ])
+    (elim c.if-arrival-best.branch [
+      | then-arrival-best w ↦ sooner _ _ _ _ _ _ _ refl (search rules) _ _ _ c.loop-i.invariant.1 c.loop-i.invariant.2
+          c.if-arrival-clock.false (omega (arith, w.if-arrival-best.true)) w.best-is
+      | else-arrival-best w ↦ later _ _ _ _ _ _ _ refl
+          (search rules) _ _ _ c.loop-i.invariant.1 c.loop-i.invariant.2
+          c.if-arrival-clock.false (omega (arith, w.if-arrival-best.false)) w.best-is
+    ])
 
 pub returns : goal.returns
 returns c =

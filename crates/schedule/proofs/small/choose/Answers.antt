@@ -2,7 +2,7 @@
 -- A task is tried where it can start: its edges can then be gone through.
 use mathlib.Core.Path.{◌≡◌, refl, sym, ◌∙◌}
 use mathlib.Core.List.{List}
-use Prim.Native.Nat.{ℕ, ◌-◌, ◌≤◌, ◌<◌}
+use Prim.Native.Nat.{ℕ, ◌≤◌, ◌<◌}
 use borrow.Author.Rules.{rules}
 use lib.Dec.{leb, eqb, le→leb}
 use lib.Dec.{T as Holds}
@@ -35,12 +35,15 @@ loop-t-init c =
 
 pub try_task-best-requires : goal.try_task-best-requires
 try_task-best-requires c =
-    record { n_bound = (
+    record {
+      n_bound = (
         c.requires.clock_bound.3,
         c.loop-t.invariant.1,
         walkable _ _ c.args.first.now _ _ _ c.loop-t.t c.index16.result c.requires.by_index (search rules)
             c.if-waiting-t-eq0.true c.if-scratch-t.true c.index16.ensures,
-      ); count_in_bounds = c.requires.count_in_bounds }
+      );
+      count_in_bounds = c.requires.count_in_bounds;
+    }
 
 pub returns-then-best-clock : goal.returns-then-best-clock
 returns-then-best-clock c =
@@ -50,13 +53,15 @@ returns-then-best-clock c =
 pub loop-t-preserved : goal.loop-t-preserved
 loop-t-preserved c =
     let v = c.loop-t.invariant in
-    (elim c.if-waiting-t-eq0.branch
-        [ then-waiting-t-eq0+then-scratch-t+else-best-clock w ↦ from_same _ _ _ _ _ _ _ _ _ _ w.best-is (search rules) w.if-best-clock.false
-    (from_tried _ _ _ _ _ _ _ _ _ (search rules) v.2 w.if-waiting-t-eq0.true w.if-scratch-t.true _ w.try_task-best.ensures) |
-        then-waiting-t-eq0+else-scratch-t w ↦ from_same _ _ _ _ _ _ _ _ _ _ w.best-is (search rules) v.1
-    (from_unfinished _ _ _ _ _ _ _ _ _ (search rules) v.2 w.if-waiting-t-eq0.true w.if-scratch-t.false) | else-waiting-t-eq0 w
-        ↦ from_same _ _ _ _ _ _ _ _ _ _ w.best-is (search rules) v.1
-    (from_waits _ _ _ _ _ _ _ _ _ (search rules) v.2 w.if-waiting-t-eq0.false) ])
+    (elim c.if-waiting-t-eq0.branch [
+      | then-waiting-t-eq0+then-scratch-t+else-best-clock w ↦ from_same _ _ _ _ _ _ _ _ _ _ w.best-is (search rules) w.if-best-clock.false
+          (from_tried _ _ _ _ _ _ _ _ _ (search rules) v.2 w.if-waiting-t-eq0.true w.if-scratch-t.true _ w.try_task-best.ensures)
+      | then-waiting-t-eq0+else-scratch-t w ↦ from_same _ _ _ _ _ _ _ _ _ _ w.best-is (search rules) v.1
+          (from_unfinished _ _ _ _ _ _ _ _ _ (search rules) v.2 w.if-waiting-t-eq0.true w.if-scratch-t.false)
+      | else-waiting-t-eq0 w
+          ↦ from_same _ _ _ _ _ _ _ _ _ _ w.best-is (search rules) v.1
+          (from_waits _ _ _ _ _ _ _ _ _ (search rules) v.2 w.if-waiting-t-eq0.false)
+    ])
 
 pub returns : goal.returns
 returns c =

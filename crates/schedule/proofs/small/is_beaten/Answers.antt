@@ -2,7 +2,7 @@
 -- the arrivals are not either.
 use mathlib.Core.Path.{◌≡◌}
 use mathlib.Core.List.{List}
-use Prim.Native.Nat.{ℕ, ◌+◌, ◌*◌, ◌-◌, ◌≤◌, ◌<◌}
+use Prim.Native.Nat.{ℕ, ◌+◌, ◌*◌, ◌≤◌, ◌<◌}
 use native.Mathlib.Omega.{arith}
 use lib.ListN.{get_or}
 use Rattle.base.specs.Laws.Tests.{impossible}
@@ -22,7 +22,6 @@ beaten S T k start finish messages costs free count v h s late i b =
 
 -- what was asked, at the loop
 module _ (a : At-loop-k) where
-
   abbrev held : Sources
   held =
       sources a.args.edges a.args.from.now a.args.to.now a.args.counts.now
@@ -43,9 +42,12 @@ pub is_late-requires : goal.is_late-requires
 is_late-requires c =
     let K = known_into _ _ _ _ (walkable (goal.at.is_late-requires c).At-loop-k) _ c.loop-k.invariant c.loop-k-test.true in
     record {
-      row_len = (sent_row (held (goal.at.is_late-requires c).At-loop-k) _ _ _ _ c.sent-bundle.ensures.finish_value
-          c.sent-bundle.ensures.messages_value c.sent-bundle.ensures.row_value K, c.requires.count_in_bounds.0,
-              c.requires.count_in_bounds.1);
+      row_len = (
+        sent_row (held (goal.at.is_late-requires c).At-loop-k) _ _ _ _ c.sent-bundle.ensures.finish_value
+            c.sent-bundle.ensures.messages_value c.sent-bundle.ensures.row_value K,
+        c.requires.count_in_bounds.0,
+        c.requires.count_in_bounds.1,
+      );
       finish_le_most_finish = sent_in_time (held (goal.at.is_late-requires c).At-loop-k) _ _ _ _ c.sent-bundle.ensures.finish_value
           c.sent-bundle.ensures.messages_value c.sent-bundle.ensures.row_value K;
     }
@@ -55,7 +57,7 @@ returns-then-is_late c =
     λ _. beaten _ _ _ _ _ _ c.sent-bundle.result.row c.args.free.now _
     c.loop-k.invariant c.loop-k-test.true
     (sent_at_lem (held (goal.at.returns-then-is_late c).At-loop-k) _ _ _ _ c.sent-bundle.ensures.finish_value
-        c.sent-bundle.ensures.messages_value c.sent-bundle.ensures.row_value) (c.is_late.ensures c.if-is_late.true)
+    c.sent-bundle.ensures.messages_value c.sent-bundle.ensures.row_value) (c.is_late.ensures c.if-is_late.true)
 
 pub loop-k-smaller : goal.loop-k-smaller
 loop-k-smaller c =

@@ -71,4 +71,4 @@ shape_of-scratch c =
 pub returns : goal.returns
 returns c =
     together c.requires c.put.ensures.waiting_after c.put.ensures.starts_after c.put.ensures.processors_after c.put.ensures.busy_after
-        c.tell.ensures c.skip.ensures
+    c.tell.ensures c.skip.ensures

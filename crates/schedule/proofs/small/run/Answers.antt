@@ -5,14 +5,12 @@ use Prim.Native.Nat.{ℕ, ◌+◌, ◌*◌, ◌-◌, ◌≤◌, ◌<◌}
 use native.Mathlib.Nat.{le_of_lt}
 use native.Mathlib.Omega.{arith}
 use borrow.Author.Rules.{below_length}
-use lib.ListN.{get_or}
 use mir.Facts.{Fits-below}
 use Rattle.base.specs.Laws.Lists.{zeros_at}
 use Rattle.graph.specs.Graph.{Runs, Listed}
 use Rattle.graph.specs.Laws.Rising.{runs_of}
 use Rattle.graph.specs.Laws.ByPlace.{counts_at}
 use Rattle.graph.specs.Laws.Listed.{listed_of}
-use Rattle.etf.specs.Bounds.{most_finish}
 use Rattle.schedule.specs.declared.planner.Pair.{Pair}
 use Rattle.schedule.specs.InArrays.{InArrays, in_number_order, Plannable}
 use Rattle.schedule.specs.SmallPass.{Sheet, sheet, ToEnter, Entered, SmallRoom}
@@ -55,9 +53,6 @@ module _ {pair : Pair} {low m : ℕ} {to : List ℕ} {H : Sheet} {first last fir
 -- ---- what is known at the loop
 
 module _ (a : At-loop-low) where
-
-
-
   abbrev A : InArrays
   A = in_number_order a.args.n a.args.tasks a.args.edges a.args.durations.now a.args.from.now
       a.args.to.now a.args.counts.now a.args.costs.now
@@ -109,12 +104,20 @@ pub look-choice-requires : goal.look-choice-requires
 look-choice-requires c =
     let Y = c.loop-low.invariant in
     record {
-      clock_bound = (clock_low (given (goal.at.look-choice-requires c).At-loop-low) (room (goal.at.look-choice-requires c).At-loop-low)
-          Y, le_of_lt (remain (goal.at.look-choice-requires c).In-loop-low),
-              (given (goal.at.look-choice-requires c).At-loop-low).few_tasks,
-                  (given (goal.at.look-choice-requires c).At-loop-low).few_processors);
-      first_len = ((edge_lists (goal.at.look-choice-requires c).At-loop-low).first_size, Y.inner.busy_size, Y.inner.waiting_size, omega
-          (arith, Y.scratch_size, (room (goal.at.look-choice-requires c).At-loop-low).for_scratch));
+      clock_bound = (
+        clock_low (given (goal.at.look-choice-requires c).At-loop-low) (room (goal.at.look-choice-requires c).At-loop-low)
+            Y,
+        le_of_lt (remain (goal.at.look-choice-requires c).In-loop-low),
+        (given (goal.at.look-choice-requires c).At-loop-low).few_tasks,
+        (given (goal.at.look-choice-requires c).At-loop-low).few_processors,
+      );
+      first_len = (
+        (edge_lists (goal.at.look-choice-requires c).At-loop-low).first_size,
+        Y.inner.busy_size,
+        Y.inner.waiting_size,
+        omega
+            (arith, Y.scratch_size, (room (goal.at.look-choice-requires c).At-loop-low).for_scratch),
+      );
       by_index = to_look (given (goal.at.look-choice-requires c).At-loop-low) (room (goal.at.look-choice-requires c).At-loop-low) Y
           {before = replicate 1024 0} (edge_lists (goal.at.look-choice-requires c).At-loop-low);
     }
@@ -147,42 +150,46 @@ pub place-low-requires : goal.place-low-requires
 place-low-requires c =
     asked_of c.finish-done.ensures.first_value c.finish-done.ensures.last_value
     (to_enter (given (goal.at.place-low-requires c).At-loop-low) (room (goal.at.place-low-requires c).At-loop-low) c.loop-low.invariant
-        c.look-choice.ensures (remain (goal.at.place-low-requires c).In-loop-low) (omega (arith, c.if-pair-moment.true))
-            (edge_runs (goal.at.place-low-requires c).At-loop-low) c.finish-done.ensures.finish_value)
+    c.look-choice.ensures (remain (goal.at.place-low-requires c).In-loop-low) (omega (arith, c.if-pair-moment.true))
+    (edge_runs (goal.at.place-low-requires c).At-loop-low) c.finish-done.ensures.finish_value)
 
 pub overflow_add-rounds : goal.overflow_add-rounds
 overflow_add-rounds c =
     Fits-below tt (rounds_small _ _
-        (rounds_low (given (goal.at.overflow_add-rounds c).At-loop-low) (room (goal.at.overflow_add-rounds c).At-loop-low)
-            c.loop-low.invariant (remain (goal.at.overflow_add-rounds c).In-loop-low))
-                (given (goal.at.overflow_add-rounds c).At-loop-low).few_tasks)
+    (rounds_low (given (goal.at.overflow_add-rounds c).At-loop-low) (room (goal.at.overflow_add-rounds c).At-loop-low)
+    c.loop-low.invariant (remain (goal.at.overflow_add-rounds c).In-loop-low))
+    (given (goal.at.overflow_add-rounds c).At-loop-low).few_tasks)
 
 pub loop-low-smaller : goal.loop-low-smaller
 loop-low-smaller c =
     rounds_left _ _ (rounds_low (given (goal.at.loop-low-smaller c).At-loop-low) (room (goal.at.loop-low-smaller c).At-loop-low)
-        c.loop-low.invariant (remain (goal.at.loop-low-smaller c).In-loop-low))
+    c.loop-low.invariant (remain (goal.at.loop-low-smaller c).In-loop-low))
 
 pub loop-low-preserved : goal.loop-low-preserved
 loop-low-preserved c =
     let found = c.look-choice.ensures in
     let runs = edge_runs (goal.at.loop-low-preserved c).At-loop-low in
-    (elim c.if-pair-moment.branch [ then-pair-moment+then-end-done w ↦ carried
-    (follows_placed (given (goal.at.loop-low-preserved c).At-loop-low) (room (goal.at.loop-low-preserved c).At-loop-low)
-        c.loop-low.invariant found (remain (goal.at.loop-low-preserved c).In-loop-low) (omega (arith, w.if-pair-moment.true)) runs
-            w.finish-done.ensures.finish_value
-    (entered_of w.finish-done.ensures.first_value w.finish-done.ensures.last_value w.place-low.ensures) (later _ _ w.if-end-done.true)
-        w.place-low.auto.waiting w.place-low.auto.scratch)
-    w.starts-is w.processors-is w.scratch-is w.waiting-is w.busy-is w.clock-is w.end-is w.low-is | then-pair-moment+else-end-done w
-        ↦ carried
-    (follows_placed (given (goal.at.loop-low-preserved c).At-loop-low) (room (goal.at.loop-low-preserved c).At-loop-low)
-        c.loop-low.invariant found (remain (goal.at.loop-low-preserved c).In-loop-low) (omega (arith, w.if-pair-moment.true)) runs
-            w.finish-done.ensures.finish_value
-    (entered_of w.finish-done.ensures.first_value w.finish-done.ensures.last_value w.place-low.ensures)
-        (not_later _ _ w.if-end-done.false) w.place-low.auto.waiting w.place-low.auto.scratch)
-    w.starts-is w.processors-is w.scratch-is w.waiting-is w.busy-is w.clock-is w.end-is w.low-is | else-pair-moment w ↦ carried
-        (follows_moved (given (goal.at.loop-low-preserved c).At-loop-low) (room (goal.at.loop-low-preserved c).At-loop-low)
-            c.loop-low.invariant found (remain (goal.at.loop-low-preserved c).In-loop-low) (omega (arith, w.if-pair-moment.false)))
-    w.starts-is w.processors-is w.scratch-is w.waiting-is w.busy-is w.clock-is w.end-is w.low-is ])
+    (elim c.if-pair-moment.branch [
+      | then-pair-moment+then-end-done w ↦ carried
+          (follows_placed (given (goal.at.loop-low-preserved c).At-loop-low) (room (goal.at.loop-low-preserved c).At-loop-low)
+          c.loop-low.invariant found (remain (goal.at.loop-low-preserved c).In-loop-low) (omega (arith, w.if-pair-moment.true)) runs
+          w.finish-done.ensures.finish_value
+          (entered_of w.finish-done.ensures.first_value w.finish-done.ensures.last_value w.place-low.ensures) (later _ _ w.if-end-done.true)
+          w.place-low.auto.waiting w.place-low.auto.scratch)
+          w.starts-is w.processors-is w.scratch-is w.waiting-is w.busy-is w.clock-is w.end-is w.low-is
+      | then-pair-moment+else-end-done w
+          ↦ carried
+          (follows_placed (given (goal.at.loop-low-preserved c).At-loop-low) (room (goal.at.loop-low-preserved c).At-loop-low)
+          c.loop-low.invariant found (remain (goal.at.loop-low-preserved c).In-loop-low) (omega (arith, w.if-pair-moment.true)) runs
+          w.finish-done.ensures.finish_value
+          (entered_of w.finish-done.ensures.first_value w.finish-done.ensures.last_value w.place-low.ensures)
+          (not_later _ _ w.if-end-done.false) w.place-low.auto.waiting w.place-low.auto.scratch)
+          w.starts-is w.processors-is w.scratch-is w.waiting-is w.busy-is w.clock-is w.end-is w.low-is
+      | else-pair-moment w ↦ carried
+          (follows_moved (given (goal.at.loop-low-preserved c).At-loop-low) (room (goal.at.loop-low-preserved c).At-loop-low)
+          c.loop-low.invariant found (remain (goal.at.loop-low-preserved c).In-loop-low) (omega (arith, w.if-pair-moment.false)))
+          w.starts-is w.processors-is w.scratch-is w.waiting-is w.busy-is w.clock-is w.end-is w.low-is
+    ])
 
 pub shape_of-starts : goal.shape_of-starts
 shape_of-starts c =
@@ -199,4 +206,4 @@ shape_of-scratch c =
 pub returns : goal.returns
 returns c =
     follows_last (given (goal.at.returns c).At-loop-low) (room (goal.at.returns c).At-loop-low) c.loop-low.invariant
-        (omega (arith, c.loop-low-test.false))
+    (omega (arith, c.loop-low-test.false))

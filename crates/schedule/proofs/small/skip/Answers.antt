@@ -1,5 +1,4 @@
 -- `small::skip`: every task passed so far is marked as placed.
-use Prim.Native.Nat.{◌-◌}
 use borrow.Author.Rules.{rules}
 use Rattle.schedule.specs.Laws.Planner.Skipping.{pass, stop, none, unpassed}
 use Rattle.schedule.proofs.small.skip.Goals as goal

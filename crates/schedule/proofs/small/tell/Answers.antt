@@ -34,7 +34,6 @@ module _ (first finish : ℕ) (to : List ℕ) where
 
 -- what was asked, at the loop
 module _ (a : At-loop-k) where
-
   abbrev asked : ToTell a.args.first a.args.last a.args.to.now a.args.waiting.now
       a.args.scratch.now
   asked = a.requires
@@ -42,12 +41,12 @@ module _ (a : At-loop-k) where
 pub loop-k-init : goal.loop-k-init
 loop-k-init c =
     record {
-  from_first = search rules;
-  to_last = search rules;
-  waiting_size = refl;
-  scratch_size = refl;
-  told = begun _ _ _ _ _;
-}
+      from_first = search rules;
+      to_last = search rules;
+      waiting_size = refl;
+      scratch_size = refl;
+      told = begun _ _ _ _ _;
+    }
 
 pub overflow_sub-waiting : goal.overflow_sub-waiting
 overflow_sub-waiting c =
@@ -60,9 +59,9 @@ loop-k-preserved c =
     let t = c.index-t.ensures in
     let v = c.loop-k.invariant in
     let raised : Lifted c.index-t.result c.args.finish c.loop-k.scratch c.if-scratch-t.scratch = elim c.if-scratch-t.branch [
-      then-scratch-t w ↦
+      | then-scratch-t w ↦
           lifted _ _ _ _ w.if-scratch-t.true w.scratch-is
-              (omega (arith, t.1, v.scratch_size, (asked (goal.at.loop-k-preserved c).At-loop-k).scratch_room))
+          (omega (arith, t.1, v.scratch_size, (asked (goal.at.loop-k-preserved c).At-loop-k).scratch_room))
       | else-scratch-t w ↦ unlifted _ _ _ _ w.if-scratch-t.false w.scratch-is
     ] in
     record {
@@ -72,8 +71,8 @@ loop-k-preserved c =
       scratch_size = raised.size ∙ v.scratch_size;
       told = turn _ _ _ _ _ _ _ _ _ _ t.0 v.from_first v.told raised t.1
           (omega (arith, t.1, v.waiting_size, (asked (goal.at.loop-k-preserved c).At-loop-k).waiting_size)) (
-            still_waits _ _ _ _ t.0 v.from_first _ c.args.waiting.now c.loop-k.waiting
-            v.told.waiting_at (asked (goal.at.loop-k-preserved c).At-loop-k).enough (search rules)
+          still_waits _ _ _ _ t.0 v.from_first _ c.args.waiting.now c.loop-k.waiting
+          v.told.waiting_at (asked (goal.at.loop-k-preserved c).At-loop-k).enough (search rules)
           );
     }
 

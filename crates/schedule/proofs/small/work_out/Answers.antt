@@ -2,7 +2,7 @@
 -- edge into the task, and the edges between send it nothing.
 use mathlib.Core.Path.{◌≡◌, refl, sym, ◌∙◌}
 use mathlib.Core.List.{List}
-use Prim.Native.Nat.{ℕ, ◌+◌, ◌*◌, ◌-◌, ◌≤◌, ◌<◌, max}
+use Prim.Native.Nat.{ℕ, ◌+◌, ◌*◌, ◌≤◌, ◌<◌, max}
 use native.Mathlib.Omega.{arith}
 use borrow.Author.Rules.{rules}
 use lib.ListN.{length, get_or, replicate}
@@ -45,7 +45,6 @@ ended S T n row k v h = let e : k ≡ S.edges = omega (arith, v.into.within) in 
 
 -- what was asked, at the loop
 module _ (a : At-loop-edge) where
-
   abbrev held : Sources
   held =
       sources a.args.edges a.args.from.now a.args.to.now a.args.counts.now
@@ -66,8 +65,13 @@ pub raise-requires : goal.raise-requires
 raise-requires c =
     let K = known_into _ _ _ _ (walkable (goal.at.raise-requires c).At-loop-edge) _ c.loop-edge.invariant.into c.loop-edge-test.true in
     record {
-      task_bound = (search rules, search rules, search rules, sent_row (held (goal.at.raise-requires c).At-loop-edge) _ _ _ _
-          c.sent-bundle.ensures.finish_value c.sent-bundle.ensures.messages_value c.sent-bundle.ensures.row_value K);
+      task_bound = (
+        search rules,
+        search rules,
+        search rules,
+        sent_row (held (goal.at.raise-requires c).At-loop-edge) _ _ _ _
+            c.sent-bundle.ensures.finish_value c.sent-bundle.ensures.messages_value c.sent-bundle.ensures.row_value K,
+      );
       finish_le_most_finish = sent_in_time (held (goal.at.raise-requires c).At-loop-edge) _ _ _ _ c.sent-bundle.ensures.finish_value
           c.sent-bundle.ensures.messages_value c.sent-bundle.ensures.row_value K;
     }
@@ -81,7 +85,7 @@ pub loop-edge-preserved : goal.loop-edge-preserved
 loop-edge-preserved c =
     turn _ _ _ _ _ (walkable (goal.at.loop-edge-preserved c).At-loop-edge) _ _ _ _ _ _ _ c.loop-edge.invariant c.loop-edge-test.true
     (sent_at_lem (held (goal.at.loop-edge-preserved c).At-loop-edge) _ _ _ _ c.sent-bundle.ensures.finish_value
-        c.sent-bundle.ensures.messages_value c.sent-bundle.ensures.row_value) c.raise.ensures c.raise.auto.arrivals c.index16-edge.ensures
+    c.sent-bundle.ensures.messages_value c.sent-bundle.ensures.row_value) c.raise.ensures c.raise.auto.arrivals c.index16-edge.ensures
 
 pub returns : goal.returns
 returns c =

@@ -11,7 +11,7 @@ use Rattle.std.proofs.Math.ListN.{length, get_or, get_or-eq_default}
 use Rattle.base.specs.Choice.{pick}
 use Rattle.base.specs.Lists.{values, any}
 use Rattle.base.specs.Rows.{most}
-use Rattle.base.specs.Laws.Tests.{either, not_both, fails, both, first, second, pick_yes, pick_no, same_or_not, le_or_lt}
+use Rattle.base.specs.Laws.Tests.{either, not_both, fails, both, second, pick_yes, pick_no, same_or_not, le_or_lt}
 use Rattle.base.specs.Laws.Lists.{zeros_at}
 use Rattle.base.specs.Laws.Values.{length-values, value_at}
 use Rattle.base.specs.Laws.Most.{most_same, most_none}
