@@ -10,14 +10,15 @@ import sys
 from pathlib import Path
 
 TOP = Path(__file__).resolve().parent.parent
-PRIVATE = re.compile(r"Rattle·(job\.specs\.Laws\b|\w+\.specs\.\w*Pass\b)")
+PRIVATE = re.compile(r"Rattle\.(?:(job)\.specs\.Laws|(\w+)\.specs\.\w*Pass)\b")
 
 
 def main(words):
     crates = Path(words[0] if words else TOP) / "crates"
-    files = sorted(file for kind in ("antt", "rt") for file in crates.rglob(f"*.{kind}"))
+    files = sorted(file for part in ("src", "specs", "proofs") for kind in ("antt", "rt") for file in crates.glob(f"*/{part}/**/*.{kind}"))
     found = [f"{file.relative_to(crates.parent)}:{number}: {line.strip()}"
-             for file in files for number, line in enumerate(file.read_text().split("\n"), 1) if PRIVATE.search(line)]
+             for file in files for number, line in enumerate(file.read_text().split("\n"), 1)
+             for cited in PRIVATE.finditer(line) if (cited[1] or cited[2]) != file.relative_to(crates).parts[0]]
     print(*found, sep="\n", end="\n" if found else "")
     print(f"layers: {len(files)} files, {len(found)} lines that cite what is another crate's own")
     return 1 if found or not files else 0
