@@ -8,7 +8,7 @@ It copies the definitions, and what they cite in the crates below, to target/def
 that a changed definition can be tried before the laws are mended. Beside them it writes a crate `held` with a theorem a job, each
 by computing the definitions: the plan, its end, C, the least C, the dearest chain, each result's time and the dearest, the rounds
 and the arrivals, all of these by number and by weight; the weights and the order by them; the square of costs, the checker's answers
-to some plans, and the pages of those that are good. `rt dev` then says which do not hold. What is expected is by the reference alone,
+to some plans, and the pages of those that are good. `rt check` then says which do not hold. What is expected is by the reference alone,
 tests/rules.py. Of eight jobs three are drawn until a walk's idle board, predecessor or first step makes a difference to the least C.
 
 Status 1: the definitions and the reference differ. Status 2: they cannot be compared, as a definition does not check.
@@ -31,19 +31,17 @@ FOLDER = TOP / "target" / "definitions"
 CRATE, PAGE = "etf", "gantt"  # the second is above the first
 MODULES = {CRATE: "Instance Schedule Rule Cover Least Dearest Checker Topology OfJob Weight", PAGE: "Page"}  # what they cite is found
 MOST_VISITS = 5000  # where there are some hundred thousand, the prover comes to its limit of steps
-CITED = re.compile(r"^(?:pub )?use Rattle·(\w+?)(?:·specs)?\.specs\.([\w.]+)\.\{", re.M)
+CITED = re.compile(r"^(?:pub )?use Rattle\.(?!std\b)(\w+)\.specs\.([\w.]+)\.\{", re.M)
 COMPUTES, SHORT = re.compile(r"^ *unfoldable pub (\S+) :", re.M), re.compile(r"^ *abbrev pub (\S+) :", re.M)
-RESULTS = "resultOf resultTime dearestResult end".split()  # brought in where they only abbreviate, too
-OWN = "none some bind orElse refl map flatMap getD tasks finish wire link result job numberOf seen checked drawn".split()  # of HEAD
+RESULTS = "result_of result_time dearest_result end".split()  # brought in where they only abbreviate, too
+OWN = "none some bind or_else refl map flat_map get_or tasks finish wire link result job number_of seen checked drawn".split()  # of HEAD
 HEAD = """-- Made by tests/definitions.py.
-use mathlib.Core.Option.{{Option, none, some, bind, orElse}}
-use mathlib.Core.Path.{{_≡_, refl}}
-use mathlib.Core.List.{{List, [], _∷_, _++_, map, flatMap}}
-use Prim.Native.Nat.{{ℕ}}
-use lib.ListN.{{getD}}
-use Rattle·job.specs.Job.{{Wire, Edge, Result, Job}}
-use Rattle·etf.specs.Instance.{{Instance, tasks}}
-use Rattle·etf.specs.Schedule.{{Placement, finish}}
+use Rattle.std.proofs.Math.Option.{{Option, none, some, bind, or_else}}
+use Rattle.std.specs.Prelude.{{◌≡◌, refl, ℕ, get_or}}
+use mathlib.Core.List.{{List, [], ◌∷◌, ◌++◌, map, flat_map}}
+use Rattle.job.specs.Job.{{Wire, Edge, Result, Job}}
+use Rattle.etf.specs.Instance.{{Instance, tasks}}
+use Rattle.etf.specs.Schedule.{{Placement, finish}}
 {uses}
 
 abbrev wire : ℕ → ℕ → ℕ → Wire
@@ -64,21 +62,21 @@ job n w c ws ts es rs = record {{
   results = rs;
 }}
 
-abbrev numberOf : Option ℕ → ℕ
-numberOf none = 0
-numberOf (some k) = k
+abbrev number_of : Option ℕ → ℕ
+number_of none = 0
+number_of (some k) = k
 
 seen : Instance → (ℕ → ℕ) → List (List ℕ)
 seen I r =
-    map (λ (u : Placement). u .task ∷ u .processor ∷ u .start ∷ finish I u ∷ resultTime I r u ∷ []) (byTask I (planned I))
-    ++ ((end I r (planned I) ∷ cover I ∷ least I ∷ dearest I ∷ dearestResult I r (planned I) ∷ rounds I ∷ [])
-    ∷ map (λ T. map (λ P. arrival I (planned I) T P) (upto (I .processors))) (upto (tasks I)))
+    map (λ (u : Placement). u.task ∷ u.processor ∷ u.start ∷ finish I u ∷ result_time I r u ∷ []) (by_task I (planned I))
+    ++ ((end I r (planned I) ∷ cover I ∷ least I ∷ dearest I ∷ dearest_result I r (planned I) ∷ rounds I ∷ [])
+    ∷ map (λ T. map (λ P. arrival I (planned I) T P) (upto I.processors)) (upto (tasks I)))
 
 checked : Instance → List ℕ → List ℕ → ℕ
-checked I ps ss = numberOf (check I (scheduleOf I (λ T. getD ps T 0) (λ T. getD ss T 0)))
+checked I ps ss = number_of (check I (schedule_of I (λ T. get_or ps T 0) (λ T. get_or ss T 0)))
 
 drawn : Instance → List ℕ → List ℕ → List ℕ
-drawn I ps ss = page I (scheduleOf I (λ T. getD ps T 0) (λ T. getD ss T 0))
+drawn I ps ss = page I (schedule_of I (λ T. get_or ps T 0) (λ T. get_or ss T 0))
 """
 
 
@@ -126,7 +124,7 @@ def brought_in(modules):
         here = [name if name not in (*OWN, *names) else f"{name}-{crate}-{module.replace('.', '-')}" for name in some]
         named = [name if name == as_here else f"{name} as {as_here}" for name, as_here in zip(some, here)]
         named += [name for name in SHORT.findall(text) if crate == CRATE and name in RESULTS]
-        uses += [f"use Rattle·{crate}.specs.{module}.{{{', '.join(named)}}}"] if named else []
+        uses += [f"use Rattle.{crate}.specs.{module}.{{{', '.join(named)}}}"] if named else []
         names += here
     return uses, names
 
@@ -217,24 +215,24 @@ def theorem(i, job, dice, names):
     wires, links, results = made("wire", job.wires), made("link", job.links), made("result", job.results)
     text = [f"abbrev job-{i} : Job", f"job-{i} = job {n} {job.wiring} {job.unit} {wires} {numbers(durations)} {links} {results}", ""]
     below = 0
-    for name, of, made_plan in (("plan", "instance", plan), ("by-weight", "instanceByWeight", rules.plan(job, "weight"))):
+    for name, of, made_plan in (("plan", "instance", plan), ("by-weight", "instance_by_weight", rules.plan(job, "weight"))):
         below += rules.least(job, made_plan) < rules.cover(job, made_plan)
-        text += [f"{name}-{i} : seen ({of} job-{i}) (resultOf job-{i}) ≡ {rows(seen(job, made_plan))}"]
-        text += [f"unfolding seen bind flatMap {names}", f"{name}-{i} = refl", ""]
+        text += [f"{name}-{i} : seen ({of} job-{i}) (result_of job-{i}) ≡ {rows(seen(job, made_plan))}"]
+        text += [f"unfolding seen bind flat_map {names}", f"{name}-{i} = refl", ""]
     order = sorted(range(m), key=lambda t: (-weights[t], t))
-    text += [f"weights-{i} : map (weight (instance job-{i})) (upto {m}) ∷ byWeight (instance job-{i}) ∷ [] ≡ {rows([weights, order])}"]
-    text += [f"unfolding bind flatMap {names}", f"weights-{i} = refl", ""]
-    text += [f"square-{i} : costsOf job-{i} ≡ {rows(rules.square(job))}", f"unfolding {names}", f"square-{i} = refl", ""]
+    text += [f"weights-{i} : map (weight (instance job-{i})) (upto {m}) ∷ tasks_by_weight (instance job-{i}) ∷ [] ≡ {rows([weights, order])}"]
+    text += [f"unfolding bind flat_map {names}", f"weights-{i} = refl", ""]
+    text += [f"square-{i} : costs_of job-{i} ≡ {rows(rules.square(job))}", f"unfolding {names}", f"square-{i} = refl", ""]
     found = []
     for k, (boards, starts) in enumerate(some_plans(dice, job, plan)):
         answer = rules.check(job, boards, starts)
         found.append(answer)
         text += [f"check-{i}-{k} : checked (instance job-{i}) {numbers(boards)} {numbers(starts)} ≡ {answer}"]
-        text += [f"unfolding checked orElse {names}", f"check-{i}-{k} = refl", ""]
+        text += [f"unfolding checked or_else {names}", f"check-{i}-{k} = refl", ""]
         if answer == 0:
             page = " ++ ".join(f'text "{row}\\n"' for row in rules.page(job, boards, starts).decode().splitlines())
             text += [f"page-{i}-{k} : drawn (instance job-{i}) {numbers(boards)} {numbers(starts)} ≡ {page}"]
-            text += [f"unfolding drawn flatMap {names}", f"page-{i}-{k} = refl", ""]
+            text += [f"unfolding drawn flat_map {names}", f"page-{i}-{k} = refl", ""]
     return "\n".join(text), found, below
 
 
@@ -275,7 +273,7 @@ def stop(status, what, errors):
 def judge(status, said, head):
     """Ends the program where the theorems are not proved: for a definition that does not check, or for a difference."""
     errors = [line for line in said.splitlines() if re.search(r": error\b", line)]
-    unproved = re.search(r"^rt: (\w+) NOT PROVED", said, re.M)
+    unproved = re.search(r"^rt: the library (\w+) did not build", said, re.M)
     if unproved:
         stop(2, f"cannot compare: the definitions in crate {unproved.group(1)} do not check", errors)
     if status == 0 and "logic=proved" in said:
@@ -300,7 +298,7 @@ def main(words):
     print(f"seed {seed}, {count} jobs", flush=True)
     try:
         head, answers, below = write(count, random.Random(seed))
-        judge(*rt("dev", "held", folder=FOLDER), head)
+        judge(*rt("check", folder=FOLDER / "crates" / "held"), head)
     except Trouble as trouble:
         stop(2, f"cannot compare: {trouble}", [])
     tally = ", ".join(f"{a}: {answers.count(a)}" for a in sorted(set(answers)))

@@ -37,7 +37,7 @@ class Crates:
         for line in (top / "crates.txt").read_text().splitlines():
             name, colon, uses = line.partition("#")[0].partition(":")
             if colon:
-                self.line[name.strip()], self.uses[name.strip()] = line, uses.split()
+                self.line[name.split()[0]], self.uses[name.split()[0]] = line, uses.split()
 
     def folder(self, name):
         """The folder of a crate; a name that is not listed is a Trouble."""
