@@ -105,7 +105,7 @@ def load(kind, archive, folder):
     if not shutil.which("cc"):
         sys.exit("cc is not on the path: install a C compiler")
     if not archive.is_file():
-        sys.exit(f"{archive} is not there: `rt staticlib {kind.CRATE}` makes it")
+        sys.exit(f"{archive} is not there: `make {archive}` makes it")
     folder.mkdir(parents=True, exist_ok=True)
     shared = folder / f"lib{kind.CRATE}.so"
     subprocess.run(["cc", "-shared", "-fPIC", "-O2", "-o", str(shared), "-Wl,--whole-archive", str(archive),
