@@ -49,13 +49,13 @@ module _ {durations from counts : List ℕ} {costs : List (List ℕ)} {starts pr
         omega (arith, most_fits, mul-le-mul_left w near)
 
     in_time : f ≤ latest_start + most_duration
-    in_time = sent_most (S 0) f-is
+    in_time = rw f-is (sent_most (S 0) refl p-is)
 
     takes : (P : ℕ) → w * entry costs p P ≡ time P
-    takes P = time_is (S P) p-is w-is
+    takes P = time_is (S P) refl p-is w-is
 
     there : (P : ℕ) → f + w * entry costs p P ≡ reach P
-    there P = arrival_is (S P) p-is w-is f-is
+    there P = rw f-is (arrival_is (S P) refl p-is w-is)
 
     to_own : entry costs p p ≡ 0 → time p ≡ 0
     to_own e = let t : w * entry costs p p ≡ time p = takes p in omega (arith, rw e at t)
@@ -140,7 +140,7 @@ module _ (x : After-sent_along-sent) where
   f_sent = x.sent_along-sent.ensures.finish_value
 
   small : x.sent_along-sent.result.processor < 16
-  small = row_there (sends 0) p_sent
+  small = row_there (sends 0) refl p_sent
 
   most_near : x.sent_along-sent.result.count * x.args.most ≤ most_message_time
   most_near = most_fits sends costs_are p_sent w_sent f_sent
@@ -291,7 +291,7 @@ through-requires c =
         sent_in_time (goal.at.through-requires c).After-sent_along-sent,
         c.requires.k_in_bounds.3,
       );
-      by_index = λ P. time_most (S P) (p_sent (goal.at.through-requires c).After-sent_along-sent)
+      by_index = λ P. time_most (S P) refl (p_sent (goal.at.through-requires c).After-sent_along-sent)
           (w_sent (goal.at.through-requires c).After-sent_along-sent);
       by_index_2 = no_less S (costs_are (goal.at.through-requires c).After-sent_along-sent)
           (p_sent (goal.at.through-requires c).After-sent_along-sent) (w_sent (goal.at.through-requires c).After-sent_along-sent)

@@ -1,4 +1,5 @@
 -- `messages::of_edge`: the messages as they are sent, by the cost to the processor.
+use Rattle.std.proofs.Common.{refl}
 use Prim.Native.Nat.{◌*◌, ◌≤◌}
 use native.Mathlib.Omega.{arith}
 use Rattle.etf.specs.Topology.{entry}
@@ -17,7 +18,7 @@ module _ (x : After-sent_along-sent) where
 
   takes_most : x.sent_along-sent.result.count * entry x.args.costs.now x.sent_along-sent.result.processor x.args.q
       ≤ most_message_time
-  takes_most = time_most sender x.sent_along-sent.ensures.processor_value x.sent_along-sent.ensures.count_value
+  takes_most = time_most sender refl x.sent_along-sent.ensures.processor_value x.sent_along-sent.ensures.count_value
 
 pub sent_along-sent-requires : goal.sent_along-sent-requires
 sent_along-sent-requires c =
@@ -30,7 +31,7 @@ sent_along-sent-requires c =
 
 pub bounds-costs-p : goal.bounds-costs-p
 bounds-costs-p c =
-    row_there (sender (goal.at.bounds-costs-p c).After-sent_along-sent) c.sent_along-sent.ensures.processor_value
+    row_there (sender (goal.at.bounds-costs-p c).After-sent_along-sent) refl c.sent_along-sent.ensures.processor_value
 
 pub overflow_mul-time : goal.overflow_mul-time
 overflow_mul-time c =
@@ -42,8 +43,8 @@ overflow_add-result c =
       fits = omega (
         arith,
         takes_most (goal.at.overflow_add-result c).After-sent_along-sent,
-        sent_most
-            (sender (goal.at.overflow_add-result c).After-sent_along-sent) c.sent_along-sent.ensures.finish_value,
+        sent_most (sender (goal.at.overflow_add-result c).After-sent_along-sent) refl c.sent_along-sent.ensures.processor_value,
+        c.sent_along-sent.ensures.finish_value,
       );
     }
 
@@ -51,8 +52,10 @@ pub returns : goal.returns
 returns c =
     record {
       sender_value = c.sent_along-sent.ensures.sender_value;
-      time_value = time_is (sender (goal.at.returns c).After-sent_along-sent) c.sent_along-sent.ensures.processor_value
+      time_value = time_is (sender (goal.at.returns c).After-sent_along-sent) refl c.sent_along-sent.ensures.processor_value
           c.sent_along-sent.ensures.count_value;
-      arrival_value = arrival_is (sender (goal.at.returns c).After-sent_along-sent) c.sent_along-sent.ensures.processor_value
-          c.sent_along-sent.ensures.count_value c.sent_along-sent.ensures.finish_value;
+      arrival_value = rw c.sent_along-sent.ensures.finish_value (
+          arrival_is (sender (goal.at.returns c).After-sent_along-sent) refl c.sent_along-sent.ensures.processor_value
+          c.sent_along-sent.ensures.count_value
+          );
     }

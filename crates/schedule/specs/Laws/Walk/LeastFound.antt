@@ -31,7 +31,7 @@ use Rattle.graph.specs.Graph.{edges_to}
 use Rattle.schedule.specs.InArrays.{InArrays, instance_in, Plannable}
 use Rattle.schedule.specs.Pass.{message_at}
 use Rattle.schedule.specs.CoverPass.{has, ShortBefore, ShortTicks, HoldsPlan, SmallestOf, Move, sum_by_move, LeastSums}
-use Rattle.schedule.specs.CoverPass.{Nearest, Between, LeastOfLast, Scheduled, greatest_in}
+use Rattle.schedule.specs.CoverPass.{AtMost, Nearest, Between, LeastOfLast, Scheduled, greatest_in}
 use Rattle.schedule.specs.Laws.Held.{held_tasks, well, near_processors, edge_place, edge_into}
 use Rattle.schedule.specs.Laws.Walk.DearestChain.{messages_fit}
 use Rattle.schedule.specs.Laws.Walk.Sets.{in_empty}
@@ -78,7 +78,24 @@ module _ {A : InArrays} (F : Plannable A) {starts processors : List ℕ}
       go (no_set e) = absurd (in_empty P (rw e at h))
       go (the_set B) = B.within P h
 
-  -- no message to one of them costs more than the greatest cost, and but to its own processor none costs less than the nearest does
+  -- no message to one of them costs more than the greatest cost
+  pub at_most : {cost : ℕ} → cost ≡ greatest_in A.costs A.processors → (k : ℕ) → k < A.edges
+      → AtMost A.durations A.from A.counts A.costs starts processors cost (get_or sets (get_or A.to k 0) 0) k
+  unfolding message_at greatest_in
+  at_most e k h = record {
+    near = messages_fit F e k h;
+    to_most = λ P m.
+        let p = get_or processors (get_or A.from k 0) 0 in
+        let n = A.processors in
+        let b : p < n = S.on_processor (get_or A.from k 0) (omega (arith, F.forward k h, F.within k h)) in
+        rw e (mul-le-mul_left (get_or A.counts k 0) (omega (
+          arith,
+          most_ge n (λ q. entry A.costs p q) P (within (get_or A.to k 0) P m),
+          most_ge n (λ r. most n (λ q. entry A.costs r q)) p b,
+        )));
+  }
+
+  -- and but to its own processor, where that is free, none costs less than the nearest does
   module _ {cost : ℕ} (cost-is : cost ≡ greatest_in A.costs A.processors) {nearest : List ℕ}
       (N : Nearest A.costs A.processors cost A.processors nearest) (k : ℕ) (h : k < A.edges) where
     abbrev n : ℕ
@@ -95,16 +112,9 @@ module _ {A : InArrays} (F : Plannable A) {starts processors : List ℕ}
     own_there = S.on_processor (get_or A.from k 0) (omega (arith, F.forward k h, F.within k h))
 
     pub between : Between A.durations A.from A.counts A.costs starts processors cost nearest (get_or sets (get_or A.to k 0) 0) k
-    unfolding message_at greatest_in
+    unfolding message_at
     between = record {
-      at_most = record {
-        near = messages_fit F cost-is k h;
-        to_most = λ P m. rw cost-is (mul-le-mul_left count (omega (
-          arith,
-          most_ge n (λ q. entry A.costs own q) P (within (get_or A.to k 0) P m),
-          most_ge n (λ r. most n (λ q. entry A.costs r q)) own own_there,
-        )));
-      };
+      at_most = at_most cost-is k h;
       has_nearest = N.has_least;
       nearest_most = (N.no_more own own_there).to_most;
       to_other = λ P m d. mul-le-mul_left count ((N.no_more own own_there).to_each P (within (get_or A.to k 0) P m) d);
