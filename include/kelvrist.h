@@ -80,7 +80,7 @@
  *
  * The library takes nothing from the heap, has no global data and keeps nothing between calls: calls
  * may run at the same time in different threads. Of the C library it needs memcpy and memset alone. It
- * is built for x86-64.
+ * is built for x86-64-v2.
  */
 #ifndef KELVRIST_H
 #define KELVRIST_H
