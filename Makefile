@@ -32,8 +32,9 @@ page: job-named has-rt target/bin/page
 test:
 	@tests/gate
 
-check: has-rt
+check: has-rt target/bin/plan target/bin/page target/bin/vectors
 	@rt all check
+	@for program in plan page vectors; do target/bin/$$program <crates/$$program/stdin | cmp - crates/$$program/stdout || exit 1; done
 
 bench: bench-built
 	@target/bench crates/vectors
@@ -82,6 +83,7 @@ target/staticlib/libtiming.a: $(call sources,timing)
 
 target/bin/plan: $(call sources,plan)
 target/bin/page: $(call sources,page)
+target/bin/vectors: $(call sources,vectors)
 target/bin/%:
 	@tools/build $* out/$* $@ >&2
 
