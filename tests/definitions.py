@@ -299,6 +299,7 @@ def main(words):
     try:
         head, answers, below = write(count, random.Random(seed))
         judge(*rt("check", folder=FOLDER / "crates" / "held"), head)
+        shutil.rmtree(FOLDER)  # `rt ci` wants no crate but those of crates.txt
     except Trouble as trouble:
         stop(2, f"cannot compare: {trouble}", [])
     tally = ", ".join(f"{a}: {answers.count(a)}" for a in sorted(set(answers)))
