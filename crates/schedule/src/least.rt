@@ -89,8 +89,8 @@ fn through(
 
 // The smallest of `low` and of what the walks take that go back along edge k through a processor of the set `idle` where its messages are
 // at `latest` or after; from the edge's source they take `before`. No message of the edge costs more than `most`: where they are there
-// before `latest` at that cost, no processor is looked at. Nor is one where they serve on the sender's own, to which they take no time; to
-// another one each costs at least what `nearest` has.
+// before `latest` at that cost, no processor is looked at. Nor is one where they serve on the sender's own and that is free: there they
+// take no time. To any other each costs at least what `nearest` has.
 fn along_edge(
     k: usize,
     durations: &[u32],
