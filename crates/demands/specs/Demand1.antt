@@ -88,7 +88,8 @@ module _ (file : List ℕ) where
 
     -- where the planner does, and then only (01: "it refuses as the planner does")
     pub cover_refuses : (k : ℕ)
-        → (cover_call file starts processors scratch).answer ≡ NotCovered k ↔ (plan_call file starts processors scratch).answer ≡ NotPlanned k
+        → (cover_call file starts processors scratch).answer ≡ NotCovered k
+        ↔ (plan_call file starts processors scratch).answer ≡ NotPlanned k
     cover_refuses k = (plan_as_cover instance file starts processors scratch k, cover_as_plan instance file starts processors scratch k)
 
     -- 02 §6: "A new entry, with the larger entry's slices and refusals": it accepts, or refuses by one of the planner's numbers, ..
@@ -108,7 +109,8 @@ module _ (file : List ℕ) where
 
     -- .. so where the planner does, and then only
     pub weight_refuses_as_planner : (k : ℕ)
-        → (weight_call file starts processors scratch).answer ≡ NotPlanned k ↔ (plan_call file starts processors scratch).answer ≡ NotPlanned k
+        → (weight_call file starts processors scratch).answer ≡ NotPlanned k
+        ↔ (plan_call file starts processors scratch).answer ≡ NotPlanned k
     weight_refuses_as_planner k = (
       one_as_other instance_by_weight instance file starts processors scratch k,
       one_as_other instance instance_by_weight file starts processors scratch k,

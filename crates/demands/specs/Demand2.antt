@@ -83,7 +83,8 @@ plan_by_the_rule {by} rule file starts processors scratch o h =
 -- so of document 01's
 pub plan_is_etf : (file starts processors scratch : List ℕ) (o : Outcome) → (plan_call file starts processors scratch).answer ≡ Plan o
     → ByTheRule instance file o.tasks o.end
-    (λ T. get_or (plan_call file starts processors scratch).starts T 0) (λ T. get_or (plan_call file starts processors scratch).processors T 0)
+    (λ T. get_or (plan_call file starts processors scratch).starts T 0)
+    (λ T. get_or (plan_call file starts processors scratch).processors T 0)
 plan_is_etf = plan_by_the_rule by_number
 
 -- whose choice is, in every round, 01: "Take the smallest start; ties go to the lowest step number, then the lowest board"
@@ -115,7 +116,8 @@ module _ (file starts processors scratch : List ℕ) (o : Outcome) (h : (small_c
 
 -- and what a call from C leaves in the plan's bytes, by any tie rule
 pub bytes_by_the_rule : {by : Job → Instance} → TieRule by → (file plan : List ℕ) → (plan_bytes_call_by by file plan).number ≡ 0
-    → (m E : ℕ) × ByTheRule by file m E (start_in (plan_bytes_call_by by file plan).plan) (processor_in (plan_bytes_call_by by file plan).plan)
+    → (m E : ℕ)
+    × ByTheRule by file m E (start_in (plan_bytes_call_by by file plan).plan) (processor_in (plan_bytes_call_by by file plan).plan)
 bytes_by_the_rule {by} rule file plan h =
     let P = bytes_as rule file plan h in (
       tasks (instance P.job),

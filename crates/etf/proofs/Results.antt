@@ -67,7 +67,8 @@ module _ (I : Instance) (W : WellFormed I) where
       ≡ greatest (λ T. (placement_of (planned I) T).start + duration I T + result T * I.cost (placement_of (planned I) T).processor 0)
       (upto (tasks I))
   by_task_lem result =
-      Results.by_task_lem I (planned I) (placement_once (planned I) (sound_plan I W).once) (λ u h. ((sound_plan I W).in_range_lem u h).0) (home I W)
+      Results.by_task_lem I (planned I) (placement_once (planned I) (sound_plan I W).once)
+      (λ u h. ((sound_plan I W).in_range_lem u h).0) (home I W)
       result
 
   -- with every walk begun with any task that finishes last, for every ideal schedule

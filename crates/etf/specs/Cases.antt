@@ -6,7 +6,8 @@ use Rattle.std.specs.Prelude.{◌≡◌, ℕ, get_or}
 use mathlib.Core.List.{List, [], ◌∷◌, ◌++◌, map, flat_map}
 use Rattle.base.specs.Lists.{upto, any, all, filter, greatest, smallest, keep, best}
 use Rattle.job.specs.declared.Platform.{Platform}
-use Rattle.job.specs.Job.{Edge, Wire, Result, wire_cost, result_count, Job, blank, with_rack, with_wires, with_tasks, with_edges, job_with_results}
+use Rattle.job.specs.Job.{Edge, Wire, Result, wire_cost, result_count, Job, blank, with_rack, with_wires, with_tasks, with_edges}
+use Rattle.job.specs.Job.{job_with_results}
 use Rattle.etf.specs.Instance.{Instance, ordered, tasks, duration, into, out_of, message_time}
 use Rattle.etf.specs.Schedule.{Placement, placed, placement_of, finish, message_time_to, arrival, last_finish, schedule_of, by_task}
 use Rattle.etf.specs.Schedule.{result_time, end, dearest_result}
@@ -53,7 +54,8 @@ unfolding printed instance instance_by_weight ordered out_of weight_in weight pu
     at_most move settle next_moment free finished ready pair pairs choice complete round run planned rounds_in rounds
     running busy idle some_idle latest_idle_tick lowest_idle later latest_into back walk last_task cover greatest_cost dearest_to dearest
     serving moves least_from last_tasks least
-    first_answer misplaced overlap early check hypercube_hops difference ring_hops hops cost wire_cost square costs_of blank bind or_else flat_map
+    first_answer misplaced overlap early check hypercube_hops difference ring_hops hops cost wire_cost square costs_of blank bind or_else
+    flat_map
 answer (plan_of j) = printed (instance j) (result_of j)
 answer (plan_by order j) = printed (ordered order (instance j)) (result_of j)
 answer (result_time_of j) =

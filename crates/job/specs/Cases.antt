@@ -6,9 +6,8 @@ use Rattle.base.specs.Lists.{upto, any, filter}
 use Rattle.base.specs.Number.{number}
 use Rattle.job.specs.Job.{blank}
 use Rattle.job.specs.Record.{kind_of, body_length, platform_in, duration_in, edge_in, no_rack, stands, full, platform_in_range}
-use Rattle.job.specs.Record.{duration_in_range, count_in_range, in_range, joins, rises, above_last, misfit, added}
-use Rattle.job.specs.Record.{wire_in, cost_in_range, pairs, wire_pairs, pairs_due, is_due, too_early_number, result_in, has_successor, past_results}
-use Rattle.job.specs.Record.{may_deliver}
+use Rattle.job.specs.Record.{duration_in_range, count_in_range, in_range, joins, rises, above_last, misfit, added, wire_in, cost_in_range}
+use Rattle.job.specs.Record.{pairs, wire_pairs, pairs_due, is_due, too_early_number, result_in, has_successor, past_results, may_deliver}
 use Rattle.job.specs.Read.{Answer, accepted, refused, after, judged, records, read_job}
 
 -- a file and the number that it gets, 0 where it is accepted
@@ -131,9 +130,9 @@ number_of (refused k) = k
 
 -- the answer to a file; all definitions of the reader are opened, so that it computes, also where another crate opens this one name
 unfoldable pub computed : List ℕ → Answer
-unfolding read_job blank records judged after kind_of body_length stands no_rack full in_range platform_in_range duration_in_range count_in_range
-    cost_in_range misfit too_early_number is_due pairs_due wire_pairs pairs joins above_last rises may_deliver has_successor past_results added platform_in
-    duration_in edge_in wire_in result_in number flat_map filter any upto
+unfolding read_job blank records judged after kind_of body_length stands no_rack full in_range platform_in_range duration_in_range
+    count_in_range cost_in_range misfit too_early_number is_due pairs_due wire_pairs pairs joins above_last rises may_deliver has_successor
+    past_results added platform_in duration_in edge_in wire_in result_in number flat_map filter any upto
 computed file = read_job file
 
 -- each file gets its number

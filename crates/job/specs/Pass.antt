@@ -1,6 +1,7 @@
 -- What the private functions promise one another: one record or a pass over one kind of record, from a place of the file to the place
 -- after it, and the first trouble of a job. A reader of the public contracts needs nothing of this file.
-use Rattle.std.specs.Prelude.{Bool, false, not, ◌&&◌, ◌⊎◌, ◌≡◌, ℕ, zero, suc, ◌+◌, ◌*◌, ◌-◌, ◌≤◌, ◌<◌, leb, ltb, eqb, T as Holds, length, get_or, drop, replicate}
+use Rattle.std.specs.Prelude.{Bool, false, not, ◌&&◌, ◌⊎◌, ◌≡◌, ℕ, zero, suc, ◌+◌, ◌*◌, ◌-◌, ◌≤◌, ◌<◌, leb, ltb, eqb, T as Holds, length}
+use Rattle.std.specs.Prelude.{get_or, drop, replicate}
 use mathlib.Core.List.{List, [], ◌∷◌, ◌++◌, map, flat_map}
 use Rattle.std.proofs.Math.Option.{Option, none, some}
 use Rattle.std.specs.Int.{w8, w16, w32}
@@ -22,8 +23,8 @@ use Rattle.job.specs.declared.parse.Passage.{Passage}
 use Rattle.job.specs.declared.record.Pair.{Pair}
 use Rattle.job.specs.Job.{Edge, Wire, Result, Job, blank, with_rack, with_wires, with_tasks, with_edges, job_with_results}
 use Rattle.job.specs.Record.{Kind, step, link, end, wire, result, kind_of, empty, stands, platform_in_range, duration_in_range}
-use Rattle.job.specs.Record.{count_in_range, joins, above_last, cost_in_range, wire_pairs, pairs_due, is_due, too_early_number, has_successor}
-use Rattle.job.specs.Record.{past_results}
+use Rattle.job.specs.Record.{count_in_range, joins, above_last, cost_in_range, wire_pairs, pairs_due, is_due, too_early_number}
+use Rattle.job.specs.Record.{has_successor, past_results}
 use Rattle.job.specs.Read.{refused, accepted, refused_or, records, read_job, wire_array, result_array, arrays_of, reading_of, reading_as}
 use Rattle.job.specs.Write.{edge_held, wire_held, result_held, results_held, file_of}
 

@@ -15,8 +15,8 @@ use Rattle.job.specs.Record.{kind_of, body_length, result_in, empty, stands, ful
 use Rattle.job.specs.Record.{cost_in_range, in_range, joins, pairs, wire_pairs, has_successor, past_results, may_deliver, misfit}
 use Rattle.job.specs.Read.{accepted, refused, judged, records, read_job}
 use Rattle.job.specs.Write.{rack_bytes, wire_bytes, step_bytes, link_bytes, result_bytes, wire_held, greatest_length, settling_length}
-use Rattle.job.specs.Pass.{key, edge, result_of, platform_trouble, step_trouble, link_trouble, cost_trouble, delivery_trouble, wires_trouble}
-use Rattle.job.specs.Pass.{steps_trouble, links_trouble, results_trouble}
+use Rattle.job.specs.Pass.{key, edge, result_of, platform_trouble, step_trouble, link_trouble, cost_trouble, delivery_trouble}
+use Rattle.job.specs.Pass.{wires_trouble, steps_trouble, links_trouble, results_trouble}
 use Rattle.job.specs.Laws.Judged.{passes, first_none}
 use Rattle.job.specs.Laws.Due.{first_wire, all_due, due_after, wired_up, first_step, first_link}
 use Rattle.job.specs.Laws.Encoded.{read_rack, read_wires, read_steps, read_links, read_results, read_end}
@@ -204,7 +204,8 @@ unfolding records judged kind_of stands full body_length tasks
 too_short = refl
 
 out_of_order : records (begun ++ (0 ∷ [])) 0 greatest ≡ refused 15
-unfolding records judged kind_of stands full body_length in_range count_in_range result_in number misfit may_deliver has_successor any past_results
+unfolding records judged kind_of stands full body_length in_range count_in_range result_in number misfit may_deliver has_successor any
+    past_results
     tasks links results
 out_of_order = refl
 

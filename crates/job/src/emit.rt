@@ -207,7 +207,8 @@ fn put_links(
     start: usize,
 ) -> usize
     requires edges_bound { edges ≤ 1024 }
-    requires edges_in_bounds { start + length (flat_map link_bytes (values (edge_held from.now to.now counts.now) 0 edges)) ≤ length out.old }
+    requires edges_in_bounds { start + length (flat_map link_bytes (values (edge_held from.now to.now counts.now) 0 edges))
+        ≤ length out.old }
     ensures { Put out.old out.new start result
         (flat_map link_bytes (values (edge_held from.now to.now counts.now) 0 edges)) }
 {
@@ -339,7 +340,8 @@ pub fn put_job<'a>(
     results: &'a [u16; 256],
     out: &mut [u8],
 ) -> usize
-    requires holds { Holds (platform_in_range platform) × (tasks ≤ 256) × (edges ≤ 1024) × (many ≡ length (results_held results.now tasks)) }
+    requires holds { Holds (platform_in_range platform) × (tasks ≤ 256) × (edges ≤ 1024)
+        × (many ≡ length (results_held results.now tasks)) }
     requires results_in_bounds { length (file_of (held_job platform tasks edges
         (gathered durations.now from.now to.now counts.now costs.now results.now))) ≤ length out.old }
     ensures { Put out.old out.new 0 result (file_of (held_job platform tasks edges (gathered durations.now

@@ -36,6 +36,7 @@ pub cases_hold :
     × (check_bytes_call linked (at 0 0 ++ at 1 6) ≡ 13)
     × (check_bytes_call linked (at 0 0 ++ at 1 7) ≡ 0)
     × (check_bytes_call (9 ∷ []) [] ≡ 2)
-unfolding check_of plan_bytes_call_by plan_bytes_for plan_bytes task_bytes bytes start_of processor_of check_bytes_call check_bytes_for number_of
+unfolding check_of plan_bytes_call_by plan_bytes_for plan_bytes task_bytes bytes start_of processor_of check_bytes_call check_bytes_for
+    number_of
     processor_in start_in computed answer
 cases_hold = (refl, refl, refl, refl, refl, refl, refl, refl, refl, refl, refl, refl, refl)

@@ -13,6 +13,7 @@ pub printed : (printed_text file_a
     ≡ text " 0 |####............................................................|\n"
     ++ text " 1 |###...##........................................................|\n")
     × (printed_text (1 ∷ 2 ∷ 0 ∷ []) ≡ text "refused 1\n")
-unfolding printed_text printed_for plan_page refusal_line page rows row columns cell runs_within ticks_within width line field decimal digits text
+unfolding printed_text printed_for plan_page refusal_line page rows row columns cell runs_within ticks_within width line field decimal
+    digits text
     computed answer
 printed = (refl, refl)

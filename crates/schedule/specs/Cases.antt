@@ -90,7 +90,8 @@ pub cases_hold :
     × (check_call apart (0 ∷ []) (0 ∷ 1 ∷ []) ≡ NotChecked 9)
     × (check_call apart (0 ∷ 0 ∷ []) (0 ∷ []) ≡ NotChecked 9)
     × (check_call apart (0 ∷ 5 ∷ 0 ∷ []) (0 ∷ 0 ∷ 99 ∷ []) ≡ Yes)
-unfolding plan_call_by small_call laid_small outcome_by end_by cover_call_by figures call_for laid_out_call is_too_short filled scratch_at check_call check_for
+unfolding plan_call_by small_call laid_small outcome_by end_by cover_call_by figures call_for laid_out_call is_too_short filled
+    scratch_at check_call check_for
     checked_as check_of start_of processor_of computed answer
 cases_hold = (
   refl,

@@ -1,6 +1,7 @@
 -- What the private functions of the cover call promise one another, in terms of the arrays that they are handed.
 -- A reader of the public contracts needs nothing of this file.
-use Rattle.std.specs.Prelude.{Bool, not, ◌⊎◌, ◌≡◌, List, [], ℕ, zero, suc, ◌+◌, ◌*◌, ◌^◌, ◌/◌, ◌%◌, ◌≤◌, ◌<◌, max, ltb, eqb, T as Holds, length, get_or}
+use Rattle.std.specs.Prelude.{Bool, not, ◌⊎◌, ◌≡◌, List, [], ℕ, zero, suc, ◌+◌, ◌*◌, ◌^◌, ◌/◌, ◌%◌, ◌≤◌, ◌<◌, max, ltb, eqb, T as Holds}
+use Rattle.std.specs.Prelude.{length, get_or}
 use Rattle.std.specs.Int.Count.{count_trailing_zeros}
 use Rattle.base.specs.Choice.{pick}
 use Rattle.base.specs.Rows.{most}
@@ -154,7 +155,8 @@ module _ (durations from counts : List ℕ) (costs : List (List ℕ)) (starts pr
     pub nearest_most : get_or nearest (get_or processors (get_or from k 0) 0) 0 ≤ most
     pub to_other : (P : ℕ) → Holds (has set P)
         → ((P ≡ get_or processors (get_or from k 0) 0) × (entry costs (get_or processors (get_or from k 0) 0) P ≡ 0) → ⊥)
-        → get_or counts k 0 * get_or nearest (get_or processors (get_or from k 0) 0) 0 ≤ message_at durations from counts costs starts processors P k
+        → get_or counts k 0 * get_or nearest (get_or processors (get_or from k 0) 0) 0
+        ≤ message_at durations from counts costs starts processors P k
 
 -- what the walks from each task take, before an edge was looked at: 0 where no tick before its start is short, else what none passes
 pub record Unwalked (idle sums : List ℕ) : Type 0 where

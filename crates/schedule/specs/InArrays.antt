@@ -52,7 +52,8 @@ in_number_order n m l durations from to counts costs = record {
 
 -- with the tasks in the order of an array
 abbrev pub in_given_order : List ℕ → ℕ → ℕ → ℕ → List ℕ → List ℕ → List ℕ → List ℕ → List (List ℕ) → InArrays
-in_given_order order n m l durations from to counts costs = reordered (λ i. get_or order i 0) (in_number_order n m l durations from to counts costs)
+in_given_order order n m l durations from to counts costs =
+    reordered (λ i. get_or order i 0) (in_number_order n m l durations from to counts costs)
 
 -- the instance that arrays hold; spare places are not read
 unfoldable pub instance_in : InArrays → Instance

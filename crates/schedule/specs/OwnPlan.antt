@@ -18,7 +18,8 @@ use Rattle.schedule.specs.Laws.Checker.OwnPlan.{filled_yes}
 -- where a planner plans, by any tie rule, the checker says yes to its starts and processors
 pub slices_accepted : {by : Job → Instance} → TieRule by → (file starts processors scratch : List ℕ) (o : Outcome)
     → (plan_call_by by file starts processors scratch).answer ≡ Plan o
-    → check_call file (plan_call_by by file starts processors scratch).starts (plan_call_by by file starts processors scratch).processors ≡ Yes
+    → check_call file (plan_call_by by file starts processors scratch).starts
+    (plan_call_by by file starts processors scratch).processors ≡ Yes
 unfolding plan_call_by check_call laid_out_call
 slices_accepted {by} rule file starts processors scratch o h =
     let answer : Job → Planned = λ j. Plan (outcome_by by j) in

@@ -1,6 +1,7 @@
 -- What the private functions promise one another, in terms of the arrays that they are handed.
 -- A reader of the public contracts needs nothing of this file.
-use Rattle.std.specs.Prelude.{Bool, false, not, ◌&&◌, ◌||◌, ◌≡◌, List, [], ◌∷◌, ℕ, zero, suc, ◌+◌, ◌*◌, ◌-◌, ◌≤◌, ◌<◌, max, min, leb, ltb, eqb, length, get_or, set}
+use Rattle.std.specs.Prelude.{Bool, false, not, ◌&&◌, ◌||◌, ◌≡◌, List, [], ◌∷◌, ℕ, zero, suc, ◌+◌, ◌*◌, ◌-◌, ◌≤◌, ◌<◌, max, min, leb, ltb}
+use Rattle.std.specs.Prelude.{eqb, length, get_or, set}
 use Rattle.base.specs.Choice.{pick}
 use Rattle.base.specs.Lists.{values, upto, filter}
 use Rattle.base.specs.Rows.{sum, one_if, most}
@@ -69,7 +70,8 @@ row_of clock arrivals free k T = values (λ i. pair_at clock arrivals T (get_or 
 
 -- the same by the arrival at each processor, wherever it is kept
 unfoldable pub row_by : ℕ → (ℕ → ℕ) → List ℕ → ℕ → ℕ → List Pair
-row_by clock arrival free k T = values (λ i. record { start = max clock (arrival (get_or free i 0)); task = T; processor = get_or free i 0 }) 0 k
+row_by clock arrival free k T = values
+    (λ i. record { start = max clock (arrival (get_or free i 0)); task = T; processor = get_or free i 0 }) 0 k
 
 -- the waiting count of a placed task
 abbrev pub placed_mark : ℕ

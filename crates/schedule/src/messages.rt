@@ -25,7 +25,8 @@ pub fn sent_along(
     requires k_in_bounds { (k < length from.now) × (k < length counts.now) }
     requires k_in_bounds_2 { (get_or from.now k 0 < length starts.now) × (get_or from.now k 0 < length durations.now)
         × (get_or from.now k 0 < length processors.now) }
-    requires k_bound { get_or starts.now (get_or from.now k 0) 0 + get_or durations.now (get_or from.now k 0) 0 ≤ latest_start + most_duration }
+    requires k_bound { get_or starts.now (get_or from.now k 0) 0 + get_or durations.now (get_or from.now k 0) 0
+        ≤ latest_start + most_duration }
     ensures sender_value { result.sender ≡ get_or from.now k 0 }
     ensures processor_value { result.processor ≡ get_or processors.now (get_or from.now k 0) 0 }
     ensures count_value { result.count ≡ get_or counts.now k 0 }

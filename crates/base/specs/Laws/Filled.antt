@@ -1,7 +1,8 @@
 -- A slice whose first k places were filled: its length, each of its places, one place more.
 -- By extensionality: slices of one length with the same entries are one.
 use Rattle.std.specs.Prelude.{◌≡◌, refl, ◌⊎◌, List, ◌++◌, map, ℕ, ◌+◌, ◌-◌, ◌≤◌, ◌<◌, min, length, get_or, drop, set}
-use Rattle.std.proofs.Common.{ap, sym, ◌∙◌, inl, inr, arith, length-append, length-drop, length-set, get_or-append-add, get_or-drop, get_or-set_same, get_or-set_other, ext_get_or}
+use Rattle.std.proofs.Common.{ap, sym, ◌∙◌, inl, inr, arith, length-append, length-drop, length-set, get_or-append-add, get_or-drop}
+use Rattle.std.proofs.Common.{get_or-set_same, get_or-set_other, ext_get_or}
 use Rattle.std.proofs.Math.ListN.{get_or-append}
 use Rattle.base.specs.Lists.{upto}
 use Rattle.base.specs.Slices.{filled}

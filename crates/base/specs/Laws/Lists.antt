@@ -1,5 +1,6 @@
 -- Membership laws for any, all, filter, map, flat_map, greatest, smallest and best, and lists by place. By induction on the list.
-use Rattle.std.specs.Prelude.{◌≡◌, refl, ◌⊎◌, Bool, true, false, not, ◌&&◌, ◌||◌, ℕ, zero, suc, ◌≤◌, ◌<◌, min, max, ltb, eqb, T as Holds, length, get_or, replicate}
+use Rattle.std.specs.Prelude.{◌≡◌, refl, ◌⊎◌, Bool, true, false, not, ◌&&◌, ◌||◌, ℕ, zero, suc, ◌≤◌, ◌<◌, min, max, ltb, eqb, T as Holds}
+use Rattle.std.specs.Prelude.{length, get_or, replicate}
 use Rattle.std.proofs.Common.{ap, sym, ◌∙◌, subst, inl, inr, arith, ltb→lt, lt→ltb, nltb→le, eqb→eq, length-append}
 use Rattle.std.proofs.Math.Option.{Option, none, some}
 use mathlib.Core.List.{List, [], ◌∷◌, ◌++◌, map, flat_map}

@@ -1,5 +1,6 @@
 -- Sums over the numbers below n, and how many of them pass a test. By induction on n.
-use Rattle.std.specs.Prelude.{◌≡◌, refl, ◌⊎◌, Bool, true, false, not, List, [], ◌∷◌, ◌++◌, ℕ, zero, suc, ◌+◌, ◌*◌, ◌≤◌, ◌<◌, T as Holds, length}
+use Rattle.std.specs.Prelude.{◌≡◌, refl, ◌⊎◌, Bool, true, false, not, List, [], ◌∷◌, ◌++◌, ℕ, zero, suc, ◌+◌, ◌*◌, ◌≤◌, ◌<◌, T as Holds}
+use Rattle.std.specs.Prelude.{length}
 use Rattle.std.proofs.Common.{ap, inl, inr, add-zero, add-suc, arith}
 use Rattle.base.specs.Choice.{pick}
 use Rattle.base.specs.Lists.{upto, filter}

@@ -47,7 +47,8 @@ map-values {B = B} h f i (suc k) = ap (λ (l : List B). h (f i) ∷ l) (map-valu
 values_from : (a : List ℕ) (i k : ℕ) → i + k ≤ length a → values (λ n. get_or a n 0) i k ≡ take k (drop i a)
 unfolding values
 values_from a i zero h = refl
-values_from a i (suc k) h = rw (drop-cons a i 0 (omega arith)) (ap (λ (l : List ℕ). get_or a i 0 ∷ l) (values_from a (suc i) k (omega arith)))
+values_from a i (suc k) h = rw (drop-cons a i 0 (omega arith))
+    (ap (λ (l : List ℕ). get_or a i 0 ∷ l) (values_from a (suc i) k (omega arith)))
 
 pub values-take : (a : List ℕ) (k : ℕ) → k ≤ length a → values (λ n. get_or a n 0) 0 k ≡ take k a
 values-take a k h = values_from a 0 k (omega arith)

@@ -31,7 +31,8 @@ use Rattle.schedule.specs.Call.{Call, start_of, processor_of, laid_out_call}
 use Rattle.schedule.specs.Plan.{plan_call_by}
 use Rattle.schedule.specs.Cover.{figures, cover_call_by}
 use Rattle.schedule.specs.Check.{check_of, checked_as, number_of, check_for, check_call}
-use Rattle.kelvrist.specs.PlanBytes.{plan_bytes, processor_in, start_in, plan_bytes_for, plan_bytes_call_by, check_bytes_for, check_bytes_call}
+use Rattle.kelvrist.specs.PlanBytes.{plan_bytes, processor_in, start_in, plan_bytes_for, plan_bytes_call_by, check_bytes_for}
+use Rattle.kelvrist.specs.PlanBytes.{check_bytes_call}
 use Rattle.kelvrist.specs.Numbers.{as_many}
 use Rattle.kelvrist.specs.Laws.Decoded.{processor_back, start_back}
 use Rattle.kelvrist.specs.Laws.OwnPlan.{start_fits}
@@ -128,7 +129,8 @@ pub record BytesAs (by : Job → Instance) (file plan : List ℕ) : Type 0 where
   pub processors_hold : (T : ℕ) → T < tasks (instance job)
       → processor_in (plan_bytes_call_by by file plan).plan T ≡ (placement_of (planned (by job)) T).processor
 
-pub bytes_as : {by : Job → Instance} → TieRule by → (file plan : List ℕ) → (plan_bytes_call_by by file plan).number ≡ 0 → BytesAs by file plan
+pub bytes_as : {by : Job → Instance} → TieRule by → (file plan : List ℕ) → (plan_bytes_call_by by file plan).number ≡ 0
+    → BytesAs by file plan
 unfolding plan_bytes_call_by plan_bytes_for start_of processor_of
 bytes_as {by} rule file plan h = go (read_job file) refl h
   where

@@ -25,7 +25,8 @@ module _ (I : Instance) (W : WellFormed I) where
   ps = planned I
 
   -- a processor idle before a task's start: the task has a predecessor whose messages reach it later
-  held_up : (T P t : ℕ) → T < tasks I → P < I.processors → Holds (not (busy I ps P t)) → t < (placement_of ps T).start → t < arrival I ps T P
+  held_up : (T P t : ℕ) → T < tasks I → P < I.processors → Holds (not (busy I ps P t)) → t < (placement_of ps T).start
+      → t < arrival I ps T P
   held_up T P t b p i ts = go (le_or_lt (arrival I ps T P) t)
     where
       go : (arrival I ps T P ≤ t) ⊎ (t < arrival I ps T P) → t < arrival I ps T P

@@ -52,7 +52,8 @@ module _ (I : Instance) (order : List ℕ) where
   pub dearest_ordered : dearest (ordered order I) ≡ dearest I
   unfolding dearest ordered
   dearest_ordered =
-      greatest_same (dearest_to (ordered order I) (tasks I)) (dearest_to I (tasks I)) (upto (tasks I)) (λ T h. dearest_to_ordered (tasks I) T)
+      greatest_same (dearest_to (ordered order I) (tasks I)) (dearest_to I (tasks I)) (upto (tasks I))
+      (λ T h. dearest_to_ordered (tasks I) T)
 
   -- the checker's rules
   pub keeps_ordered : (ps : List Placement) → Keeps (ordered order I) ps → Keeps I ps

@@ -119,7 +119,8 @@ module _ (I : Instance) (W : WellFormed I) (D B : ℕ)
   pub arrival_after : (k T P : ℕ) → Opened I (run I k begin).placements T → P < I.processors
       → arrival I (run I k begin).placements T P ≤ tasks I * (D + B)
   arrival_after k T P o p =
-      arrival_by (run I k begin).placements (tasks I * (D + B)) (sound_run I W k begin (sound_start I)).in_range_lem (finish_after k) T P o p
+      arrival_by (run I k begin).placements (tasks I * (D + B)) (sound_run I W k begin (sound_start I)).in_range_lem
+      (finish_after k) T P o p
 
   -- the finish of a planned task: m durations and m - 1 message times
   pub finish_most : (u : Placement) → u ∈ planned I → finish I u + B ≤ tasks I * (D + B)

@@ -1,6 +1,8 @@
 -- Where a cell stands on a page: a store there is a store to that cell, and nothing else of the page changes.
-use Rattle.std.specs.Prelude.{Bool, not, ◌&&◌, ◌⊎◌, ◌≡◌, refl, ℕ, zero, suc, ◌+◌, ◌*◌, ◌≤◌, ◌<◌, leb, ltb, eqb, T as Holds, length, get_or, drop, set, replicate}
-use Rattle.std.proofs.Common.{inl, inr, ⊎_elim, ap, sym, ◌∙◌, zero-add, arith, leb→le, le→leb, ltb→lt, lt→ltb, eqb→eq, length-append, length-set, get_or-append-add, get_or-set_same, get_or-set_other, ext_get_or, drop_at}
+use Rattle.std.specs.Prelude.{Bool, not, ◌&&◌, ◌⊎◌, ◌≡◌, refl, ℕ, zero, suc, ◌+◌, ◌*◌, ◌≤◌, ◌<◌, leb, ltb, eqb, T as Holds, length, get_or}
+use Rattle.std.specs.Prelude.{drop, set, replicate}
+use Rattle.std.proofs.Common.{inl, inr, ⊎_elim, ap, sym, ◌∙◌, zero-add, arith, leb→le, le→leb, ltb→lt, lt→ltb, eqb→eq, length-append}
+use Rattle.std.proofs.Common.{length-set, get_or-append-add, get_or-set_same, get_or-set_other, ext_get_or, drop_at}
 use mathlib.Core.List.{List, [], ◌∷◌, ◌++◌, map, flat_map, append-nil}
 use Rattle.std.proofs.Math.ListN.{get_or-append}
 use Rattle.std.proofs.lemmas.List.Edits.{sets}

@@ -31,7 +31,8 @@ module _ (w : ℕ) (durations starts processors : List ℕ) where
   abbrev by : ℕ → ℕ → ℕ → ℕ
   by = cells_by w durations starts processors
 
-  pub cells_more : (t s d P : ℕ) → s ≡ get_or starts t 0 → d ≡ get_or durations t 0 → P ≡ get_or processors t 0 → (wide : 0 < w) (time : 1 ≤ d)
+  pub cells_more : (t s d P : ℕ) → s ≡ get_or starts t 0 → d ≡ get_or durations t 0 → P ≡ get_or processors t 0
+      → (wide : 0 < w) (time : 1 ≤ d)
       → (Q j : ℕ) → filled_cells (by t) P (first_cell s d w wide time) (past_cell s d w wide time) mark Q j ≡ by (t + 1) Q j
   unfolding filled_cells cells_by marks upto
   cells_more t s d P s-is d-is P-is wide time Q j =

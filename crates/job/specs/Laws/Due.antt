@@ -1,5 +1,6 @@
 -- The job so far: what may follow it, with one record more.
-use Rattle.std.specs.Prelude.{Bool, true, false, not, ◌&&◌, ◌⊎◌, ◌≡◌, refl, List, [], ◌∷◌, ◌++◌, map, ℕ, ◌+◌, ◌≤◌, ◌<◌, eqb, T as Holds, length, drop}
+use Rattle.std.specs.Prelude.{Bool, true, false, not, ◌&&◌, ◌⊎◌, ◌≡◌, refl, List, [], ◌∷◌, ◌++◌, map, ℕ, ◌+◌, ◌≤◌, ◌<◌, eqb, T as Holds}
+use Rattle.std.specs.Prelude.{length, drop}
 use Rattle.std.proofs.Common.{inl, inr, ap, sym, ◌∙◌, append_assoc, append-nil, arith, le→leb, eqb→eq, length-append, drop_at, drop-drop}
 use Rattle.std.proofs.lemmas.List.{length-map}
 use Rattle.base.specs.Choice.{pick}

@@ -11,8 +11,8 @@ use Rattle.base.specs.Laws.Number.{length_bytes, number_bytes}
 use Rattle.job.specs.declared.Platform.{Platform}
 use Rattle.job.specs.Job.{Edge, Wire, Result, RiseByTask, ends, Job, blank, with_rack, with_wires, with_tasks, with_edges, job_with_results}
 use Rattle.job.specs.Record.{rack, step, link, end, wire, result, kind_of, body_length, no_rack, stands, full, in_range, misfit, added}
-use Rattle.job.specs.Record.{platform_in, duration_in, edge_in, wire_in, result_in, pairs_due, is_due, too_early_number, has_successor, past_results}
-use Rattle.job.specs.Record.{may_deliver}
+use Rattle.job.specs.Record.{platform_in, duration_in, edge_in, wire_in, result_in, pairs_due, is_due, too_early_number, has_successor}
+use Rattle.job.specs.Record.{past_results, may_deliver}
 use Rattle.job.specs.Read.{Answer, accepted, refused_or, after, judged, records}
 use Rattle.job.specs.Write.{rack_bytes, wire_bytes, step_bytes, link_bytes, result_bytes}
 use Rattle.job.specs.Pass.{key, edge, first_of, platform_trouble, cost_trouble, step_trouble, link_trouble, wires_trouble, steps_trouble}
@@ -137,7 +137,8 @@ read_results j (r ∷ rs) tail s up h =
     let sent = has_successor j.edges in
     let i : Job = job_with_results j (r ∷ []) in
     let f = h r (here refl) in
-    let rec : records (flat_map result_bytes rs ++ tail) 0 i ≡ refused_or (results_trouble sent rs) (records tail 0 (job_with_results i rs)) =
+    let rec : records (flat_map result_bytes rs ++ tail) 0 i
+    ≡ refused_or (results_trouble sent rs) (records tail 0 (job_with_results i rs)) =
     read_results i rs tail s up.1 (λ x k. (
       (h x (there k)).0,
       rw (past_more j.results r x.task) (le→leb (r.task + 1) x.task (omega (arith, up.0 x k))),

@@ -1,6 +1,7 @@
 -- Where the reader halts, and why: the chain of turns is followed from the file's start to the turn that refuses.
 -- Then the writer's refusals, by its tests.
-use Rattle.std.specs.Prelude.{Bool, true, false, not, ◌⊎◌, ◌≡◌, refl, List, ◌∷◌, ℕ, suc, ◌+◌, ◌≤◌, ◌<◌, ltb, T as Holds, length, get_or, drop}
+use Rattle.std.specs.Prelude.{Bool, true, false, not, ◌⊎◌, ◌≡◌, refl, List, ◌∷◌, ℕ, suc, ◌+◌, ◌≤◌, ◌<◌, ltb, T as Holds, length, get_or}
+use Rattle.std.specs.Prelude.{drop}
 use Rattle.std.proofs.Common.{inl, inr, ⊎_elim, ap, ◌∙◌, arith, ltb-true, ltb→lt, nltb→le, length-drop, drop-cons, drop-drop}
 use Rattle.std.proofs.Math.Option.{Option, some}
 use Rattle.base.specs.Choice.{pick}

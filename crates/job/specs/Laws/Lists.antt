@@ -1,5 +1,6 @@
 -- Lists by place: what stands where the rest of a list begins, in a list with one entry more, and in a padded list.
-use Rattle.std.specs.Prelude.{◌≡◌, refl, List, [], ◌∷◌, ◌++◌, map, Bool, true, false, not, ℕ, zero, suc, ◌-◌, ◌≤◌, ◌<◌, T as Holds, length, get_or, drop, replicate}
+use Rattle.std.specs.Prelude.{◌≡◌, refl, List, [], ◌∷◌, ◌++◌, map, Bool, true, false, not, ℕ, zero, suc, ◌-◌, ◌≤◌, ◌<◌, T as Holds, length}
+use Rattle.std.specs.Prelude.{get_or, drop, replicate}
 use Rattle.std.proofs.Common.{ap, subst, ◌∙◌, arith, length-append}
 use Rattle.std.proofs.lemmas.List.{length-replicate, length-map}
 use Rattle.std.proofs.Math.ListN.{get_or-map, get_or-eq_default}

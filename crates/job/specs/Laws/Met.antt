@@ -117,7 +117,8 @@ module _ (p : Platform) (ws : List Wire) (n : 1 ≤ p.processors) (stand : map e
 
   all_wired : too_early_number (with_wires (with_rack blank p) ws) ≡ 0
   unfolding blank
-  all_wired = wired_up (with_wires (with_rack blank p) ws) (due_after (with_wires (with_rack blank p) ws) [] (append-nil (map ends ws) ∙ stand))
+  all_wired = wired_up (with_wires (with_rack blank p) ws)
+      (due_after (with_wires (with_rack blank p) ws) [] (append-nil (map ends ws) ∙ stand))
 
 module _ (j : Job) (w : Writable j) where
   abbrev results : List ℕ

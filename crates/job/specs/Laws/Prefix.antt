@@ -46,7 +46,8 @@ later_wire j ws = refl
 -- the values of a body stand in its bytes
 platform_prefix : (n : ℕ) (rest : List ℕ) → 3 ≤ n → platform_in (take n rest) ≡ platform_in rest
 unfolding platform_in
-platform_prefix n rest h = rw (get_or-take n rest 0 0 (omega arith), get_or-take n rest 1 0 (omega arith), get_or-take n rest 2 0 (omega arith))
+platform_prefix n rest h =
+    rw (get_or-take n rest 0 0 (omega arith), get_or-take n rest 1 0 (omega arith), get_or-take n rest 2 0 (omega arith))
 
 duration_prefix : (n : ℕ) (rest : List ℕ) → 4 ≤ n → duration_in (take n rest) ≡ duration_in rest
 unfolding duration_in
@@ -95,8 +96,12 @@ same n rest j rack h =
 same n rest j step h =
     let e : duration_in (take n rest) ≡ duration_in rest = duration_prefix n rest h in
     record { range = rw e; fit = refl; more = rw e }
-same n rest j link h = let e : edge_in (take n rest) ≡ edge_in rest = edge_prefix n rest h in record { range = rw e; fit = rw e; more = rw e }
-same n rest j wire h = let e : wire_in (take n rest) ≡ wire_in rest = wire_prefix n rest h in record { range = rw e; fit = rw e; more = rw e }
+same n rest j link h =
+    let e : edge_in (take n rest) ≡ edge_in rest = edge_prefix n rest h in
+    record { range = rw e; fit = rw e; more = rw e }
+same n rest j wire h =
+    let e : wire_in (take n rest) ≡ wire_in rest = wire_prefix n rest h in
+    record { range = rw e; fit = rw e; more = rw e }
 same n rest j result h =
     let e : result_in (take n rest) ≡ result_in rest = result_prefix n rest h in
     record { range = rw e; fit = rw e; more = rw e }

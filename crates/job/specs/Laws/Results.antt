@@ -1,7 +1,9 @@
 -- Results as a list and in an array by task: the results that an array holds rise by task, and each way back gives the same.
 -- And which tasks have a successor, by the edges in an array.
-use Rattle.std.specs.Prelude.{◌≡◌, refl, ◌⊎◌, Bool, true, false, List, [], ◌∷◌, ◌++◌, map, ℕ, zero, suc, ◌+◌, ◌-◌, ◌≤◌, ◌<◌, leb, ltb, eqb, T as Holds, length, get_or, set, replicate}
-use Rattle.std.proofs.Common.{ap, sym, subst, ◌∙◌, inl, inr, ⊎_elim, append-nil, add-one, arith, le→leb, ltb→lt, lt→ltb, eqb→eq, length-append, length-set, get_or-set_same, get_or-set_other, ext_get_or}
+use Rattle.std.specs.Prelude.{◌≡◌, refl, ◌⊎◌, Bool, true, false, List, [], ◌∷◌, ◌++◌, map, ℕ, zero, suc, ◌+◌, ◌-◌, ◌≤◌, ◌<◌, leb, ltb, eqb}
+use Rattle.std.specs.Prelude.{T as Holds, length, get_or, set, replicate}
+use Rattle.std.proofs.Common.{ap, sym, subst, ◌∙◌, inl, inr, ⊎_elim, append-nil, add-one, arith, le→leb, ltb→lt, lt→ltb, eqb→eq}
+use Rattle.std.proofs.Common.{length-append, length-set, get_or-set_same, get_or-set_other, ext_get_or}
 use Rattle.std.proofs.lemmas.List.{map-append, length-map}
 use Rattle.base.specs.Choice.{pick}
 use Rattle.base.specs.Lists.{◌∈◌, here, there, upto, any, filter, values}

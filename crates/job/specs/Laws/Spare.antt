@@ -1,6 +1,7 @@
 -- An array that is filled from the front, its other places 0: one more place filled, and what the array is in the end.
 use Rattle.std.specs.Prelude.{◌≡◌, refl, List, map, ◌++◌, [], ◌∷◌, ℕ, suc, ◌+◌, ◌-◌, ◌≤◌, ◌<◌, length, get_or, take, drop, set, replicate}
-use Rattle.std.proofs.Common.{ap, sym, ◌∙◌, arith, take-append-drop, length-set, drop-drop, drop-set-lt, length-take-le, get_or-set_same, get_or-set_other}
+use Rattle.std.proofs.Common.{ap, sym, ◌∙◌, arith, take-append-drop, length-set, drop-drop, drop-set-lt, length-take-le, get_or-set_same}
+use Rattle.std.proofs.Common.{get_or-set_other}
 use Rattle.std.proofs.lemmas.List.{length-replicate}
 use Rattle.base.specs.Lists.{values}
 use Rattle.base.specs.Laws.Values.{map-values, values_same, values-take, values_more}

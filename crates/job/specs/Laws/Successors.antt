@@ -1,6 +1,7 @@
 -- How many tasks may deliver a result, and so how many results a job can have: only tasks without a successor may, and many links leave
 -- few of those. Of links that rise strictly, those from one task have each a higher `to` than the one before, so there are few from each.
-use Rattle.std.specs.Prelude.{◌≡◌, refl, ◌⊎◌, Bool, true, false, not, ◌&&◌, ℕ, zero, suc, ◌+◌, ◌*◌, ◌-◌, ◌≤◌, ◌<◌, ltb, eqb, T as Holds, length, get_or}
+use Rattle.std.specs.Prelude.{◌≡◌, refl, ◌⊎◌, Bool, true, false, not, ◌&&◌, ℕ, zero, suc, ◌+◌, ◌*◌, ◌-◌, ◌≤◌, ◌<◌, ltb, eqb, T as Holds}
+use Rattle.std.specs.Prelude.{length, get_or}
 use Rattle.std.proofs.Math.Path.{ap}
 use Rattle.std.proofs.Common.{subst, inl, inr, ltb→lt, lt→ltb, leb→le, eqb→eq}
 use mathlib.Core.List.{List, [], ◌∷◌}

@@ -37,8 +37,8 @@ use Rattle.job.specs.Laws.Results.{no_results, array_none, sends_are, past_none}
 use Rattle.job.specs.Laws.Spare.{Filled, front_none, front_set, arrays_back}
 
 -- a refusal, in any of its cases
-pub refuse : (file : List ℕ) (n : ℕ) (a : Answer) (r : Reading) → r ≡ reading_of (refused n) → (n ≡ 0 → ⊥) → read_job file ≡ refused_or n a →
-    r ≡ reading_of (read_job file)
+pub refuse : (file : List ℕ) (n : ℕ) (a : Answer) (r : Reading) → r ≡ reading_of (refused n) → (n ≡ 0 → ⊥) →
+    read_job file ≡ refused_or n a → r ≡ reading_of (read_job file)
 refuse file n a r e z q = e ∙ ap reading_of (sym (q ∙ stops n a z))
 
 -- .. where the arrays are lent: what they hold does not count

@@ -64,7 +64,8 @@ unfolding records
 reads [] zero j = no_more
 reads [] (suc skip) j = no_more
 reads (b ∷ rest) (suc skip) j = reads rest skip j
-reads (b ∷ rest) zero j = go (kind_of b) (judged (kind_of b) rest j (records rest)) refl (turn (kind_of b) rest j (records rest)) (reads rest)
+reads (b ∷ rest) zero j =
+    go (kind_of b) (judged (kind_of b) rest j (records rest)) refl (turn (kind_of b) rest j (records rest)) (reads rest)
   where
     go : (o : Option Kind) (a : Answer) → kind_of b ≡ o → Turn rest j (records rest) o a →
         ((skip : ℕ) (i : Job) → Reads (drop skip rest) i (records rest skip i)) → Reads (b ∷ rest) j a

@@ -8,7 +8,8 @@ use Rattle.base.specs.Laws.Stored.{flat_size}
 use Rattle.job.specs.declared.Written.TheVariants.{Length, Refused}
 use Rattle.job.specs.Job.{Job}
 use Rattle.job.specs.Read.{Answer, accepted, refused, read_job}
-use Rattle.job.specs.Write.{rack_bytes, wire_bytes, step_bytes, link_bytes, result_bytes, file_of, room_for, is_too_many, write_answer, write_out}
+use Rattle.job.specs.Write.{rack_bytes, wire_bytes, step_bytes, link_bytes, result_bytes, file_of, room_for, is_too_many, write_answer}
+use Rattle.job.specs.Write.{write_out}
 use Rattle.job.specs.Pass.{job_trouble}
 use Rattle.job.specs.Laws.Met.{Writable, met, met_accepted}
 use Rattle.job.specs.Laws.Sizes.{wire_size, step_size, link_size, result_size}

@@ -69,7 +69,8 @@ got_more plan starts processors t at p s g hs hp l at_is p-is s-is T h = go (le_
         let four : 5 * t + 1 + 3 ≡ at + 4 = omega arith in
         s-is ∙ sym (ap number (four_at plan (5 * t + 1) (omega arith) ∙ rw (two, three, four, ← at_is)))
 
-    go : (suc T ≤ t) ⊎ (t < suc T) → (get_or (set starts t s) T 0 ≡ start_in plan T) × (get_or (set processors t p) T 0 ≡ processor_in plan T)
+    go : (suc T ≤ t) ⊎ (t < suc T) → (get_or (set starts t s) T 0 ≡ start_in plan T)
+        × (get_or (set processors t p) T 0 ≡ processor_in plan T)
     go (inl k) =
         (get_or-set_other starts t T s 0 (λ q. omega arith) ∙ (g T k).0, get_or-set_other processors t T p 0 (λ q. omega arith) ∙ (g T k).1)
     go (inr k) =

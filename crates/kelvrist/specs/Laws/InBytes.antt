@@ -57,7 +57,8 @@ module _ (file : List ℕ) {r : Planned} {s p t : List ℕ} where
         → r ≡ Plan o → o.tasks ≤ most_tasks
     larger_few {o} e h = few_planned by file _ _ _ o (ap (λ (c : Call Planned). c.answer) (sym e) ∙ h)
 
-    pub larger_in_bytes : (plan : List ℕ) → called r s p t ≡ plan_call_by by file (zeros most_tasks) (zeros most_tasks) (zeros arrival_places)
+    pub larger_in_bytes : (plan : List ℕ)
+        → called r s p t ≡ plan_call_by by file (zeros most_tasks) (zeros most_tasks) (zeros arrival_places)
         → in_bytes (called r s p []) plan ≡ plan_bytes_call_by by file plan
     larger_in_bytes plan e = ap (λ (x : Call Planned). in_bytes x plan) e ∙ larger_bytes file rule plan
 

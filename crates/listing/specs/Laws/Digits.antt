@@ -1,6 +1,8 @@
 -- The digits of a number, written from the last of ten places to the first: what is not written yet are the digits of what is left.
-use Rattle.std.specs.Prelude.{Bool, true, false, ◌≡◌, List, [], ◌∷◌, ◌++◌, ℕ, zero, suc, ◌+◌, ◌-◌, ◌/◌, ◌%◌, ◌^◌, ◌≤◌, ◌<◌, ltb, length, set, drop}
-use Rattle.std.proofs.Common.{sym, ◌∙◌, append-nil, append_assoc, lt-ltb, le-ltb, length-set, length-append, drop_of_length-le, drop-cons, drop-set-lt, get_or-set_same, lt-length-set}
+use Rattle.std.specs.Prelude.{Bool, true, false, ◌≡◌, List, [], ◌∷◌, ◌++◌, ℕ, zero, suc, ◌+◌, ◌-◌, ◌/◌, ◌%◌, ◌^◌, ◌≤◌, ◌<◌, ltb, length}
+use Rattle.std.specs.Prelude.{set, drop}
+use Rattle.std.proofs.Common.{sym, ◌∙◌, append-nil, append_assoc, lt-ltb, le-ltb, length-set, length-append, drop_of_length-le, drop-cons}
+use Rattle.std.proofs.Common.{drop-set-lt, get_or-set_same, lt-length-set}
 use native.Mathlib.Omega.{arith, pow_step}
 use Rattle.base.specs.Choice.{pick}
 use Rattle.listing.specs.Listing.{digits, decimal, field}

@@ -34,7 +34,8 @@ use Rattle.schedule.specs.declared.Covered.TheVariants.{Cover}
 use Rattle.schedule.specs.declared.Laid.{Laid}
 use Rattle.schedule.specs.declared.Laid.TheVariants.{Last, Short}
 use Rattle.schedule.specs.InArrays.{InArrays, instance_in, Plannable}
-use Rattle.schedule.specs.Call.{Call, called, start_of, processor_of, scratch_at, arrival_places, laid_out_call, plan_by, is_too_short, call_for}
+use Rattle.schedule.specs.Call.{Call, called, start_of, processor_of, scratch_at, arrival_places, laid_out_call, plan_by, is_too_short}
+use Rattle.schedule.specs.Call.{call_for}
 use Rattle.schedule.specs.Plan.{last_of, end_by, outcome_by}
 use Rattle.schedule.specs.Cover.{figures}
 use Rattle.schedule.specs.Check.{check_of, checked_as, number_of, check_for, check_call, judge_call}

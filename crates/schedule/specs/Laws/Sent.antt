@@ -25,6 +25,7 @@ module _ {durations from counts : List ℕ} {costs : List (List ℕ)} {starts pr
     pub time_most : w * entry costs p q ≤ most_message_time
     time_most = rw time_is S.near
 
-    pub arrival_is : get_or starts s 0 + get_or durations s 0 + w * entry costs p q ≡ reach_at durations from counts costs starts processors q k
+    pub arrival_is : get_or starts s 0 + get_or durations s 0 + w * entry costs p q
+        ≡ reach_at durations from counts costs starts processors q k
     unfolding reach_at
     arrival_is = rw (time_is, s-is)

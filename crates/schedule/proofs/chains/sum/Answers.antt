@@ -39,10 +39,11 @@ loop-k-preserved c =
     let S = c.loop-k.invariant.1 in
     let t = c.index-t.ensures in (
       search rules,
-      more _ _ _ _ _ (asked (goal.at.loop-k-preserved c).After-wide16) S (search rules) c.index-s.ensures.0 c.wide16.ensures refl t.0 (elim c.if-sums-t.branch [
-        | then-sums-t w ↦ lifted _ _ _ _ (omega (arith, w.if-sums-t.true)) w.sums-is (omega (arith, t.1, S.size))
-        | else-sums-t w ↦ unlifted _ _ _ _ (omega (arith, w.if-sums-t.false)) w.sums-is
-      ])
+      more _ _ _ _ _ (asked (goal.at.loop-k-preserved c).After-wide16) S (search rules) c.index-s.ensures.0 c.wide16.ensures refl t.0
+          (elim c.if-sums-t.branch [
+            | then-sums-t w ↦ lifted _ _ _ _ (omega (arith, w.if-sums-t.true)) w.sums-is (omega (arith, t.1, S.size))
+            | else-sums-t w ↦ unlifted _ _ _ _ (omega (arith, w.if-sums-t.false)) w.sums-is
+          ])
           ((elim c.if-most-sum.branch [
             | then-most-sum w ↦ omega (arith, w.if-most-sum.true, w.most-is)
             | else-most-sum w ↦ omega (arith, w.if-most-sum.false, w.most-is)

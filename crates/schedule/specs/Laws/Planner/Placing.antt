@@ -169,7 +169,8 @@ module _ {A : InArrays} (F : Plannable A) {cm : ℕ} {ps : List Placement} {u : 
               fresh (subst (λ (X : ℕ). Holds (placed ps X)) e.0 o)
 
       -- what is sent along is no more than what was waited for
-      pub enough : (waiting : List ℕ) (T : ℕ) → (T < tasks I → Holds (not (placed ps T)) → get_or waiting T 0 ≡ sum l (awaited from to ps T))
+      pub enough : (waiting : List ℕ) (T : ℕ)
+          → (T < tasks I → Holds (not (placed ps T)) → get_or waiting T 0 ≡ sum l (awaited from to ps T))
           → sum last (λ k. one_if (sent T k)) ≤ get_or (set waiting u.task placed_mark) T 0
       enough waiting T q = go (either (placed (u ∷ ps) T)) (le_or_lt (tasks I) T)
         where

@@ -70,7 +70,8 @@ module _ (busy : List ℕ) (clock : ℕ) where
   soonest_one zero = inl refl
   soonest_one (suc k) = go (leb (get_or busy k 0) clock) refl (le_or_lt (soonest busy clock k) (get_or busy k 0)) (soonest_one k)
     where
-      go : (b : Bool) → leb (get_or busy k 0) clock ≡ b → (soonest busy clock k ≤ get_or busy k 0) ⊎ (get_or busy k 0 < soonest busy clock k)
+      go : (b : Bool) → leb (get_or busy k 0) clock ≡ b
+          → (soonest busy clock k ≤ get_or busy k 0) ⊎ (get_or busy k 0 < soonest busy clock k)
           → (soonest busy clock k ≡ never) ⊎ ((P : ℕ) × (P < k) × (clock < get_or busy P 0) × (soonest busy clock k ≡ get_or busy P 0))
           → (pick b (soonest busy clock k) (min (soonest busy clock k) (get_or busy k 0)) ≡ never)
           ⊎ ((P : ℕ) × (P < suc k) × (clock < get_or busy P 0)

@@ -58,7 +58,8 @@ module _ (I : Instance) (W : WellFormed I) (cm : ℕ) (ps : List Placement) (h :
 
   -- a choice that starts no later than the next moment is placed
   pub placing : (pair_of (choice I cm ps)).start ≤ never_or (next_moment I cm ps)
-      → (u : Placement) × (pair_of (choice I cm ps) ≡ pair_of (some u)) × (round I (state cm ps) ≡ state cm (u ∷ ps)) × NewPlacement I cm ps u
+      → (u : Placement) × (pair_of (choice I cm ps) ≡ pair_of (some u)) × (round I (state cm ps) ≡ state cm (u ∷ ps))
+      × NewPlacement I cm ps u
   unfolding settle move at_most
   placing p = go (next_moment I cm ps) (next_is I cm ps) (choice I cm ps) round_is p
     where

@@ -85,7 +85,8 @@ module _ (a last f n : ℕ) (row to counts table : List ℕ) (size : length tabl
   none_past T h v =
       most_none last (λ k. pick (sent_to to a T k) (v k) 0)
       (λ k b. pick_no (sent_to to a T k) (v k) 0
-      (fails (sent_to to a T k) (λ s. absurd (omega (arith, low k b, eqb→eq (get_or to k 0) T (second (leb a k) (eqb (get_or to k 0) T) s))))))
+      (fails (sent_to to a T k)
+      (λ s. absurd (omega (arith, low k b, eqb→eq (get_or to k 0) T (second (leb a k) (eqb (get_or to k 0) T) s))))))
 
   -- what reaches task T on processor P
   abbrev sent : ℕ → ℕ → ℕ

@@ -20,7 +20,8 @@ raised : {t x r : ℕ} {before after : List ℕ} → Entry t r before after → 
 raised E e = record { size = E.size; here = E.here ∙ e; elsewhere = E.elsewhere }
 
 -- it was below
-pub lifted : (t x : ℕ) (before after : List ℕ) → get_or before t 0 < x → after ≡ set before t x → t < length before → Lifted t x before after
+pub lifted : (t x : ℕ) (before after : List ℕ) → get_or before t 0 < x → after ≡ set before t x → t < length before
+    → Lifted t x before after
 lifted t x before after h e l = raised (stored l e) (later (get_or before t 0) x h)
 
 -- it was not

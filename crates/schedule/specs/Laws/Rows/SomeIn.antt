@@ -25,7 +25,8 @@ module _ (f : ℕ → Bool) where
   some_at i zero h = absurd h
   some_at i (suc k) h = go (or_cases (f i) (some_in_places f (suc i) k) h) (some_at (suc i) k)
     where
-      go : Holds (f i) ⊎ Holds (some_in_places f (suc i) k) → (Holds (some_in_places f (suc i) k) → (n : ℕ) × (suc i ≤ n) × (n < suc i + k) × Holds (f n))
+      go : Holds (f i) ⊎ Holds (some_in_places f (suc i) k)
+          → (Holds (some_in_places f (suc i) k) → (n : ℕ) × (suc i ≤ n) × (n < suc i + k) × Holds (f n))
           → (n : ℕ) × (i ≤ n) × (n < i + suc k) × Holds (f n)
       go (inl q) r = (i, omega arith, omega arith, q)
       go (inr q) r = let z = r q in (z.0, omega (arith, z.1), omega (arith, z.2), z.3)

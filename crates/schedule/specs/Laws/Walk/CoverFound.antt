@@ -161,7 +161,8 @@ module _ {A : InArrays} (F : Plannable A) {starts processors : List ℕ} (H : Ho
           (ap (λ (x : ℕ). message_time_to I ps w.through w.edge + x) (r _ (omega arith) ∙ ap (walk I ps k) f))
 
   -- from the last task they give the cover
-  pub cover_is : {last : ℕ} → FirstMost 0 m (λ T. get_or starts T 0 + get_or A.durations T 0) last → along_back back' time 256 last ≡ cover I
+  pub cover_is : {last : ℕ} → FirstMost 0 m (λ T. get_or starts T 0 + get_or A.durations T 0) last
+      → along_back back' time 256 last ≡ cover I
   unfolding cover
   cover_is {last} L =
       let z = last_is F H last L in
