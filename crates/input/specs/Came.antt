@@ -1,8 +1,7 @@
 -- What reading the input comes to.
-use Rattle.std.specs.Prelude.{◌≡◌, List, ℕ, ◌<◌, ◌≤◌, length, take, ⊤}
+use Rattle.std.specs.Prelude.{List, ℕ, ◌<◌, length, take, ⊤}
 use Rattle.std.specs.declared.option.Option.{Option}
 use Rattle.std.specs.Io.KnownBytes.{Consumes, IsAtEnd}
-use Rattle.std.proofs.Common.{ap, arith}
 use Rattle.input.specs.declared.Came.{Came}
 use Rattle.input.specs.declared.Came.TheVariants.{Bytes, Failed}
 
@@ -20,7 +19,3 @@ Takes (Failed _) before after buffer = ⊤
 abbrev pub EndsWhenShort : Came → Option (List ℕ) → List ℕ → Type 0
 EndsWhenShort (Bytes n) after buffer = n < length buffer → IsAtEnd after
 EndsWhenShort (Failed _) after buffer = ⊤
-
--- where no more came than the buffer takes, what came is a part of it
-pub came_within : {r : Came} {n k : ℕ} (input : List ℕ) → r ≡ Bytes n → count r ≤ k → length input ≡ k → n ≤ length input
-came_within input e h g = omega (arith, ap count e)
