@@ -97,13 +97,19 @@ def cited(crates):
     return found
 
 
+def types_alone(text):
+    """A source file's text without `impl` blocks, traits and ghost fields: these name definitions that are left out."""
+    text = re.sub(r"^(?:impl|(?:pub )?trait)\b.*?^\}\n", "", text, flags=re.M | re.S)
+    return re.sub(r"^    ghost \w+: \{.*?\},\n", "", text, flags=re.M | re.S)
+
+
 def write_crate(crates, crate, modules, left):
     """A crate with these modules alone: the types of its source, no function, no law, and nothing of the crates that are left out."""
     place, listed = FOLDER / "crates" / crate, {}
     (place / "src").mkdir(parents=True)
     unused = ("ghost use", *(f"use {other}::" for other in left))
     for file in sources(crates.folder(crate)):
-        lines = kept(file, set()).splitlines(True)
+        lines = types_alone(kept(file, set())).splitlines(True)
         (place / "src" / file.name).write_text("".join(line for line in lines if not line.startswith(unused)))
     for module in modules:
         parts = module.split(".")

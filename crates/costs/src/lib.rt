@@ -6,14 +6,14 @@ ghost use Rattle.std.specs.Prelude.{◌≡◌, ◌≤◌, ◌<◌};
 ghost use Rattle.etf.specs.Topology.{hypercube_hops, ring_hops, hops as hops_of, cost as cost_of, square as square_of};
 ghost use Rattle.costs.specs.Wires.{loaded};
 
-use job::Platform;
+use job::{Platform, Topology};
 
 // 01: "the number of binary places in which p and q differ"; 02 §5: "boards are as far apart as their numbers have differing bits".
 fn hypercube_hops(p: usize, q: usize) -> u32
     requires { (p < 16) × (q < 16) }
     ensures { result ≡ hypercube_hops p q }
 {
-    usize::count_ones(p ^ q)
+    (p ^ q).count_ones()
 }
 
 // 01: "the smaller of the difference d of p and q, and n - d".
@@ -21,29 +21,22 @@ fn ring_hops(n: usize, p: usize, q: usize) -> u32
     requires { (n ≤ 255) × (p < n) × (q < n) }
     ensures { result ≡ ring_hops n p q }
 {
-    let d = if p < q { q - p } else { p - q };
-    if d < n - d {
-        return d as u32;
-    }
-    (n - d) as u32
+    let d = p.abs_diff(q);
+    d.min(n - d) as u32
 }
 
-// The hops between two different processors, by topology: 0 complete, 1 hypercube, 2 ring; 0 for any other.
+// The hops between two different processors, by topology; 0 where wires tell what a message takes, and where there is no topology.
 fn hops(platform: Platform, p: usize, q: usize) -> u32
     requires { (p < platform.processors) × (q < platform.processors) × (p < 16) × (q < 16) }
     ensures { result ≡ hops_of platform p q }
 {
-    let topology = platform.topology;
-    if topology == 0 {
-        return 1;
+    match Topology::try_from(platform.topology) {
+        Ok(Topology::Complete) => 1,
+        Ok(Topology::Hypercube) => hypercube_hops(p, q),
+        Ok(Topology::Ring) => ring_hops(usize::from(platform.processors), p, q),
+        Ok(Topology::Wired) => 0,
+        Err(_) => 0,
     }
-    if topology == 1 {
-        return hypercube_hops(p, q);
-    }
-    if topology == 2 {
-        return ring_hops(base::index(platform.processors), p, q);
-    }
-    0
 }
 
 // What one message takes from processor p to processor q: under topology 3 what the wire from p to q has.
@@ -54,27 +47,22 @@ fn cost(platform: Platform, wires: &[u8; 256], p: usize, q: usize) -> u32
     if p == q {
         return 0;
     }
-    if platform.topology == 3 {
-        return base::wide8(wires[16 * p + q]);
+    if platform.topology == Topology::Wired as u8 {
+        return u32::from(wires[16 * p + q]);
     }
-    base::wide8(platform.unit) * hops(platform, p, q)
+    u32::from(platform.unit) * hops(platform, p, q)
 }
 
 // The costs as a square of sixteen rows of sixteen, 0 where a processor is absent.
 pub fn square(platform: Platform, wires: &[u8; 256]) -> [[u32; 16]; 16]
     ensures { result ≡ square_of platform.processors (cost_of platform (loaded wires.now)) }
 {
-    let n = base::least(base::index(platform.processors), 16);
+    let n = usize::from(platform.processors).min(16);
     let mut costs = [[0u32; 16]; 16];
-    let mut p: usize = 0;
-    while p < n {
-        let mut q: usize = 0;
-        while q < n {
-            let x = cost(platform, wires, p, q);
-            costs[p][q] = x;
-            q += 1;
+    for p in 0..n {
+        for q in 0..n {
+            costs[p][q] = cost(platform, wires, p, q);
         }
-        p += 1;
     }
     costs
 }

@@ -3,11 +3,13 @@
 use Rattle.std.specs.Prelude.{◌⊎◌, ◌↔◌, ◌≡◌, List, ℕ, suc, ◌*◌, ◌≤◌, ◌<◌, length, get_or, drop}
 use Rattle.job.specs.declared.Arrays.{Arrays}
 use Rattle.job.specs.declared.Platform.{Platform}
+use Rattle.job.specs.declared.table.Refusal.{Refusal}
 use Rattle.job.specs.declared.Verdict.TheVariants.{Counts, Refused as NotRead}
-use Rattle.job.specs.declared.Written.TheVariants.{Length, Refused as NotWritten}
+use Rattle.job.specs.Write.{Length, Refused as NotWritten}
 use Rattle.job.specs.Job.{Job}
 use Rattle.job.specs.Record.{kind_of}
 use Rattle.job.specs.Read.{accepted, refused, read_job, reading_of}
+use Rattle.job.specs.Table.{number_of}
 use Rattle.job.specs.Cause.{Cause, ReaderNumber, Reached}
 use Rattle.job.specs.Write.{file_of, held_job, Held, write_answer, WriterNumber, write_out}
 use Rattle.job.specs.Refusal.{read_refused, write_refused}
@@ -15,9 +17,9 @@ use Rattle.etf.specs.Instance.{tasks}
 use Rattle.etf.specs.Schedule.{schedule_of}
 use Rattle.etf.specs.Checker.{Because}
 use Rattle.etf.specs.OfJob.{instance, instance_by_weight}
-use Rattle.schedule.specs.declared.Planned.TheVariants.{Plan, Refused as NotPlanned}
-use Rattle.schedule.specs.declared.Covered.TheVariants.{Cover, Refused as NotCovered}
-use Rattle.schedule.specs.declared.Checked.TheVariants.{Yes, Refused as NotChecked}
+use Rattle.schedule.specs.Answers.Planned.{Plan, Refused as NotPlanned}
+use Rattle.schedule.specs.Answers.Covered.{Cover, Refused as NotCovered}
+use Rattle.schedule.specs.Answers.Checked.{Yes, Refused as NotChecked}
 use Rattle.schedule.specs.declared.Outcome.{Outcome}
 use Rattle.schedule.specs.declared.Figures.{Figures}
 use Rattle.schedule.specs.Call.{called, CallNumber}
@@ -42,15 +44,16 @@ use Rattle.demands.specs.Laws.Refused.{bytes_answered, bytes_number, bytes_cause
 module _ (file : List ℕ) where
   -- the reader accepts, or refuses by one of its numbers
   pub reader_answers : ((m l : ℕ) × ((reading_of (read_job file)).verdict ≡ Counts m l))
-      ⊎ ((k : ℕ) × ((reading_of (read_job file)).verdict ≡ NotRead k) × ReaderNumber k)
+      ⊎ ((e : Refusal) × ((reading_of (read_job file)).verdict ≡ NotRead e) × ReaderNumber (number_of e))
   reader_answers = read_answers file
 
   -- by a number only with its condition: at a place that it comes to past records without trouble the file ends (1), or a record has the
   -- number's cause
-  pub reader_refuses : (k : ℕ) → (reading_of (read_job file)).verdict ≡ NotRead k →
+  pub reader_refuses : (e : Refusal) → (reading_of (read_job file)).verdict ≡ NotRead e →
       (at : ℕ) × (j : Job) × Reached file at j
-      × (((length file ≤ at) × (k ≡ 1)) ⊎ ((at < length file) × Cause (drop (suc at) file) j (kind_of (get_or file at 0)) k))
-  reader_refuses k e = read_refused file k (refused_is (read_job file) e)
+      × (((length file ≤ at) × (number_of e ≡ 1))
+      ⊎ ((at < length file) × Cause (drop (suc at) file) j (kind_of (get_or file at 0)) (number_of e)))
+  reader_refuses e h = read_refused file (number_of e) (refused_is file h)
 
   -- the program prints a plan, or the reader's number, and nothing else
   pub program_answers : ((j : Job) × (read_job file ≡ accepted j) × (listing file ≡ plan_listing j))

@@ -7,7 +7,7 @@ use Rattle.base.specs.Lists.{greatest}
 use Rattle.base.specs.Slices.{filled}
 use Rattle.job.specs.declared.Arrays.{Arrays}
 use Rattle.job.specs.declared.Platform.{Platform}
-use Rattle.job.specs.declared.Written.TheVariants.{Length}
+use Rattle.job.specs.Write.{Length}
 use Rattle.job.specs.Job.{Edge, Job}
 use Rattle.job.specs.Read.{accepted, read_job, reading_of}
 use Rattle.job.specs.Write.{held_job, Held, write_answer, write_out}
@@ -29,9 +29,9 @@ use Rattle.etf.specs.Priority.{HeavierFirst, ChoiceIs}
 use Rattle.etf.proofs.Weights.{weight_rule, weight_only}
 use Rattle.etf.proofs.Choices.{choice_by_number, choice_of_job}
 use Rattle.etf.proofs.Jobs.{by_number, by_weight, well_formed}
-use Rattle.schedule.specs.declared.Planned.TheVariants.{Plan}
-use Rattle.schedule.specs.declared.Covered.TheVariants.{Cover}
-use Rattle.schedule.specs.declared.Checked.TheVariants.{Yes}
+use Rattle.schedule.specs.Answers.Planned.{Plan}
+use Rattle.schedule.specs.Answers.Covered.{Cover}
+use Rattle.schedule.specs.Answers.Checked.{Yes}
 use Rattle.schedule.specs.declared.Outcome.{Outcome}
 use Rattle.schedule.specs.declared.Figures.{Figures}
 use Rattle.schedule.specs.Plan.{end_by, outcome_by, plan_call_by, plan_call, weight_call}

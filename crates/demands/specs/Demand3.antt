@@ -15,8 +15,8 @@ use Rattle.etf.proofs.Jobs.{by_number, by_weight, well_formed, within, least_wit
 use Rattle.etf.proofs.Jobs.{without_results as without}
 use Rattle.etf.proofs.WorstCase.{some_ideal}
 use Rattle.etf.specs.Results.{WithinResults}
-use Rattle.schedule.specs.declared.Planned.TheVariants.{Plan}
-use Rattle.schedule.specs.declared.Covered.TheVariants.{Cover}
+use Rattle.schedule.specs.Answers.Planned.{Plan}
+use Rattle.schedule.specs.Answers.Covered.{Cover}
 use Rattle.schedule.specs.declared.Outcome.{Outcome}
 use Rattle.schedule.specs.declared.Figures.{Figures}
 use Rattle.schedule.specs.Plan.{end_by, outcome_by, plan_call_by, plan_call, weight_call}

@@ -5,7 +5,7 @@ use Rattle.job.specs.Cases.{computed}
 use Rattle.etf.specs.Cases.{answer}
 use Rattle.schedule.specs.Check.{check_of, checked_as, check_for}
 use Rattle.schedule.specs.Cases.{file_a, apart}
-use Rattle.gantt.specs.declared.Drawn.TheVariants.{Length, Refused}
+use Rattle.gantt.specs.Answer.{Length, Refused}
 use Rattle.gantt.specs.Page.{width, columns, row, rows, ticks_within, runs_within, cell, page}
 use Rattle.gantt.specs.Draw.{drawn, page_of, drawn_by, draw_for, draw_call}
 

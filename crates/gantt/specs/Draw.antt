@@ -4,12 +4,10 @@ use Rattle.base.specs.Choice.{pick}
 use Rattle.job.specs.Job.{Job}
 use Rattle.job.specs.Read.{Answer, accepted, refused, read_job}
 use Rattle.etf.specs.OfJob.{instance}
-use Rattle.schedule.specs.declared.Checked.{Checked}
-use Rattle.schedule.specs.declared.Checked.TheVariants.{Yes, Refused as NotChecked}
+use Rattle.schedule.specs.Answers.Checked.{Checked, Yes, Refused as NotChecked}
 use Rattle.schedule.specs.Check.{check_for}
 use Rattle.schedule.specs.Verdict.{plan_in}
-use Rattle.gantt.specs.declared.Drawn.{Drawn}
-use Rattle.gantt.specs.declared.Drawn.TheVariants.{Length, Refused}
+use Rattle.gantt.specs.Answer.{Drawn, Length, Refused}
 use Rattle.gantt.specs.Page.{page_length, page}
 
 -- what a call returns, and the last content of the buffer that it was lent

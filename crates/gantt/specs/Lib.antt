@@ -1,4 +1,5 @@
 pub mod Page
+pub mod Answer
 pub mod Draw
 pub mod Cases
 pub mod Places

@@ -6,10 +6,9 @@ use Rattle.std.proofs.Math.ListN.{drop}
 use Rattle.base.specs.Laws.Tests.{le_or_lt}
 use Rattle.job.specs.Job.{Job}
 use Rattle.job.specs.Read.{Answer, accepted, refused, read_job}
-use Rattle.schedule.specs.declared.Checked.{Checked}
-use Rattle.schedule.specs.declared.Checked.TheVariants.{Yes, Refused as NotChecked}
+use Rattle.schedule.specs.Answers.Checked.{Checked, Yes, Refused as NotChecked}
 use Rattle.schedule.specs.Check.{check_for, check_call}
-use Rattle.gantt.specs.declared.Drawn.TheVariants.{Length, Refused}
+use Rattle.gantt.specs.Answer.{Length, Refused}
 use Rattle.gantt.specs.Page.{page_length}
 use Rattle.gantt.specs.Draw.{drawn, page_of, drawn_by, draw_for, draw_call}
 

@@ -6,19 +6,12 @@ ghost use Rattle.std.proofs.lemmas.List.Edits.{sets};
 ghost use Rattle.base.specs.Choice.{pick};
 ghost use Rattle.base.specs.Rows.{most};
 ghost use Rattle.base.specs.Text.{space};
+ghost use Rattle.gantt.specs.Answer.{as_drawn};
 ghost use Rattle.gantt.specs.Page.{dot, row, rows};
 ghost use Rattle.gantt.specs.Draw.{drawn, draw_call};
 ghost use Rattle.gantt.specs.Pass.{Drawable, cells_by};
 
-use job::Verdict;
-use schedule::Checked;
-
-// What drawing a plan gives: the length of the page, or the refusal's number.
-#[derive(Clone, Copy)]
-pub enum Drawn {
-    Length(usize),
-    Refused(u8),
-}
+use job::{Refusal, Verdict};
 
 // The last finish of a plan.
 fn last_finish(tasks: usize, durations: &[u32], starts: &[u32]) -> u32
@@ -27,26 +20,18 @@ fn last_finish(tasks: usize, durations: &[u32], starts: &[u32]) -> u32
     ensures { result ≡ most tasks (λ T. get_or starts.now T 0 + get_or durations.now T 0) }
 {
     let mut last: u32 = 0;
-    let mut t: usize = 0;
-    while t < tasks {
-        let finish = starts[t] + durations[t];
-        if last < finish {
-            last = finish;
-        }
-        t += 1;
+    for t in 0..tasks {
+        last = last.max(starts[t] + durations[t]);
     }
     last
 }
 
-// Puts `count` times one byte from place `at` on.
-fn fill(out: &mut [u8], at: usize, count: usize, byte: u8)
-    requires { at + count ≤ length out.old }
-    ensures { out.new ≡ sets out.old at (replicate count byte) }
+// Puts a byte at each place. std's `fill` stores the last place apart, and the page would take some 4 parts in 100 longer.
+fn fill(part: &mut [u8], byte: u8)
+    ensures { part.new ≡ replicate (length part.old) byte }
 {
-    let mut i: usize = 0;
-    while i < count {
-        out[at + i] = byte;
-        i += 1;
+    for place in part {
+        *place = byte;
     }
 }
 
@@ -58,7 +43,7 @@ fn tens(processor: usize) -> u8
     if processor < 10 {
         return b' ';
     }
-    (48 + processor / 10) as u8
+    b'0' + (processor / 10) as u8
 }
 
 // Puts the row of a processor that runs nothing.
@@ -67,10 +52,10 @@ fn put_row(out: &mut [u8], at: usize, processor: usize)
     ensures { out.new ≡ sets out.old at (row (λ j. dot) processor) }
 {
     out[at] = tens(processor);
-    out[at + 1] = (48 + processor % 10) as u8;
+    out[at + 1] = b'0' + (processor % 10) as u8;
     out[at + 2] = b' ';
     out[at + 3] = b'|';
-    fill(out, at + 4, 64, b'.');
+    fill(&mut out[at + 4..at + 68], b'.');
     out[at + 68] = b'|';
     out[at + 69] = b'\n';
 }
@@ -80,10 +65,8 @@ fn put_rows(n: usize, out: &mut [u8])
     requires { (n ≤ 16) × (70 * n ≤ length out.old) }
     ensures { out.new ≡ rows (λ P j. dot) n ++ drop (70 * n) out.old }
 {
-    let mut p: usize = 0;
-    while p < n {
+    for p in 0..n {
         put_row(out, 70 * p, p);
-        p += 1;
     }
 }
 
@@ -103,42 +86,40 @@ fn mark_tasks(
         rows (cells_by width durations.now starts.now processors.now tasks) n
         ++ drop (70 * n) out.old }
 {
-    let mut t: usize = 0;
-    while t < tasks {
+    for t in 0..tasks {
         let start = starts[t];
         let first = start / width;
         let last = (start + durations[t] - 1) / width;
-        let row = 70 * base::index(processors[t]);
+        let cells = 70 * usize::from(processors[t]) + 4;
         fill(
-            out,
-            row + 4 + first as usize,
-            (last - first) as usize + 1,
+            &mut out[cells + first as usize..=cells + last as usize],
             b'#',
         );
-        t += 1;
     }
 }
 
-// Draws the page of a plan for the job of a file at the front of `out` (02 §3).
-pub fn draw(file: &[u8], starts: &[u32], processors: &[u8], out: &mut [u8]) -> Drawn
-    ensures { drawn result out.new ≡
+// Draws the page of a plan for the job of a file at the front of `out`, and gives the page's length (02 §3).
+pub fn draw(
+    file: &[u8],
+    starts: &[u32],
+    processors: &[u8],
+    out: &mut [u8],
+) -> Result<usize, Refusal>
+    ensures { drawn (as_drawn result) out.new ≡
         draw_call file.now starts.now processors.now out.old }
 {
     let judged = schedule::judge(file, starts, processors);
     let r = judged.reading;
     let checked = judged.checked;
-    let verdict = r.verdict;
-    let Verdict::Counts { tasks, edges: _ } = verdict else {
-        return Drawn::Refused(job::number(verdict));
+    let Verdict::Counts { tasks, edges: _ } = r.verdict else {
+        return Err(r.verdict.refusal());
     };
-    let n = base::index(r.platform.processors);
+    let n = usize::from(r.platform.processors);
     let length = 70 * n;
     if out.len() < length {
-        return Drawn::Refused(9);
+        return Err(Refusal::ShortSlice);
     }
-    if let Checked::Refused(number) = checked {
-        return Drawn::Refused(number);
-    }
+    checked?;
     let last = last_finish(tasks, &r.arrays.durations, starts);
     let width = (last + 63) / 64;
     put_rows(n, out);
@@ -151,5 +132,5 @@ pub fn draw(file: &[u8], starts: &[u32], processors: &[u8], out: &mut [u8]) -> D
         processors,
         out,
     );
-    Drawn::Length(length)
+    Ok(length)
 }

@@ -1,21 +1,19 @@
--- What reading the input comes to.
-use Rattle.std.specs.Prelude.{List, ℕ, ◌<◌, length, take, ⊤}
-use Rattle.std.specs.declared.option.Option.{Option}
+-- What reading the input comes to: how many bytes came, or why a read failed.
+use Rattle.std.specs.Prelude.{List, ℕ, ◌<◌, length, take, ⊤, Option, Result, Ok, Err}
 use Rattle.std.specs.Io.KnownBytes.{Consumes, IsAtEnd}
-use Rattle.input.specs.declared.Came.{Came}
-use Rattle.input.specs.declared.Came.TheVariants.{Bytes, Failed}
 
--- how many bytes came
-abbrev pub count : Came → ℕ
-count (Bytes n) = n
-count (Failed _) = 0
+module _ {E : Type 0} where
+  -- how many bytes came
+  abbrev pub count : Result ℕ E → ℕ
+  count (Ok n) = n
+  count (Err _) = 0
 
--- where the reader's bytes are known, those that came are its next ones: they stand at the front of the buffer, and it has lost them
-abbrev pub Takes : Came → Option (List ℕ) → Option (List ℕ) → List ℕ → Type 0
-Takes (Bytes n) before after buffer = Consumes before after (take n buffer)
-Takes (Failed _) before after buffer = ⊤
+  -- where the reader's bytes are known, those that came are its next ones: they stand at the front of the buffer, and it has lost them
+  abbrev pub Takes : Result ℕ E → Option (List ℕ) → Option (List ℕ) → List ℕ → Type 0
+  Takes (Ok n) before after buffer = Consumes before after (take n buffer)
+  Takes (Err _) before after buffer = ⊤
 
--- where fewer bytes came than the buffer takes, the reader has none left
-abbrev pub EndsWhenShort : Came → Option (List ℕ) → List ℕ → Type 0
-EndsWhenShort (Bytes n) after buffer = n < length buffer → IsAtEnd after
-EndsWhenShort (Failed _) after buffer = ⊤
+  -- where fewer bytes came than the buffer takes, the reader has none left
+  abbrev pub EndsWhenShort : Result ℕ E → Option (List ℕ) → List ℕ → Type 0
+  EndsWhenShort (Ok n) after buffer = n < length buffer → IsAtEnd after
+  EndsWhenShort (Err _) after buffer = ⊤

@@ -1,4 +1,6 @@
 pub mod Limits
+pub mod Table
+pub mod Topology
 pub mod Job
 pub mod Counts
 pub mod Record

@@ -3,12 +3,12 @@ use Rattle.std.specs.Prelude.{◌⊎◌, ◌≡◌, List, ℕ, suc, ◌≤◌, �
 use Rattle.std.proofs.Common.{inl, inr, ⊎_elim, arith}
 use Rattle.job.specs.declared.Arrays.{Arrays}
 use Rattle.job.specs.declared.Platform.{Platform}
-use Rattle.job.specs.declared.Written.TheVariants.{Refused}
 use Rattle.job.specs.Job.{Job}
 use Rattle.job.specs.Limits.{most_tasks, most_edges}
 use Rattle.job.specs.Record.{kind_of}
 use Rattle.job.specs.Read.{refused, read_job}
 use Rattle.job.specs.Cause.{Cause, ReaderNumber, Reached}
+use Rattle.job.specs.Write.{Refused}
 use Rattle.job.specs.Write.{file_of, held_job, Held, write_answer, WriterNumber}
 use Rattle.job.specs.Laws.Met.{writer_numbers}
 use Rattle.job.specs.Laws.Halt.{halts_at, reader_number, cause_number, many_counts, count_refused, room_refused}
@@ -28,6 +28,12 @@ pub reader_number_some : {n : ℕ} → ReaderNumber n → 1 ≤ n
 unfolding ReaderNumber
 reader_number_some (inl h) = h.0
 reader_number_some (inr h) = omega (arith, h.0)
+
+-- each is a number of the table
+pub in_table : (n : ℕ) → ReaderNumber n → (1 ≤ n) × (n ≤ 15)
+unfolding ReaderNumber
+in_table n (inl h) = (h.0, omega (arith, h.1))
+in_table n (inr h) = (omega (arith, h.0), h.1)
 
 -- the writer refuses with 5 for a count too large, with the reader's number for the job's file, or with 9 for too little room
 pub write_refused : (m l n : ℕ) (j : Job) (out : List ℕ) → write_answer m l j out ≡ Refused n →

@@ -4,9 +4,9 @@ use Rattle.base.specs.Number.{Bytes}
 use Rattle.base.specs.Laws.Values.{values_back}
 use Rattle.job.specs.declared.Arrays.{Arrays}
 use Rattle.job.specs.declared.Platform.{Platform}
-use Rattle.job.specs.declared.Written.TheVariants.{Length}
 use Rattle.job.specs.Job.{Job}
 use Rattle.job.specs.Read.{accepted, read_job, padded, arrays_of, reading_of}
+use Rattle.job.specs.Write.{Length}
 use Rattle.job.specs.Write.{file_of, greatest_length, settling_length, held_job, Held, write_answer, write_out}
 use Rattle.job.specs.Accepted.{Accepted, accepted_job}
 use Rattle.job.specs.Laws.Written.{file_size, read_back}

@@ -1,16 +1,19 @@
 -- The writer: the file of a job, and what `write` returns and leaves in the borrowed slice.
+use Rattle.std.specs.Prelude.{Result as Outcome, Ok, Err}
 use Rattle.std.specs.Prelude.{Bool, ◌||◌, ◌⊎◌, ◌≡◌, ℕ, ◌+◌, ◌*◌, ◌^◌, ◌≤◌, ◌<◌, ltb, length, get_or, drop}
+use Rattle.std.proofs.Common.{sym, ap, ◌∙◌}
 use mathlib.Core.List.{List, [], ◌∷◌, ◌++◌, map, flat_map}
 use Rattle.base.specs.Lists.{values, upto, filter}
 use Rattle.base.specs.Choice.{pick}
 use Rattle.base.specs.Number.{bytes}
 use Rattle.job.specs.declared.Arrays.{Arrays}
 use Rattle.job.specs.declared.Platform.{Platform}
-use Rattle.job.specs.declared.Written.{Written}
-use Rattle.job.specs.declared.Written.TheVariants.{Length, Refused}
+use Rattle.job.specs.declared.HeldJob.{HeldJob}
+use Rattle.job.specs.declared.table.Refusal.{Refusal}
 use Rattle.job.specs.Job.{Edge, Wire, Result, Job}
 use Rattle.job.specs.Limits.{most_tasks, most_edges}
 use Rattle.job.specs.Record.{wire_pairs}
+use Rattle.job.specs.Table.{number_of, refusal, refusal_is}
 use Rattle.job.specs.Read.{Answer, accepted, refused, read_job}
 
 -- the record of kind 1, rack
@@ -76,6 +79,10 @@ held_job p m l a = record {
   results = results_held a.results m;
 }
 
+-- a job held as numbers, in its struct
+abbrev pub job_held : HeldJob → Job
+job_held x = held_job x.platform x.tasks x.edges x.arrays.now
+
 -- the arrays in their struct
 abbrev pub gathered : List ℕ → List ℕ → List ℕ → List ℕ → List ℕ → List ℕ → Arrays
 gathered durations from to counts wires results = record {
@@ -93,6 +100,24 @@ pub record Held (a : Arrays) : Type 0 where
   pub to_fits : (i : ℕ) → get_or a.to i 0 < 2 ^ 8
   pub count_fits : (i : ℕ) → get_or a.counts i 0 < 2 ^ 16
   pub result_fits : (T : ℕ) → get_or a.results T 0 < 2 ^ 16
+
+-- what writing a job gives: the length written, or the refusal's number
+pub data Written : Type 0 where
+  Length : ℕ → Written
+  Refused : ℕ → Written
+
+-- .. as `write` answers it
+abbrev pub written : Outcome ℕ Refusal → Written
+written (Ok n) = Length n
+written (Err e) = Refused (number_of e)
+
+-- results that read alike are alike
+pub one_written : (r s : Outcome ℕ Refusal) → written r ≡ written s → r ≡ s
+one_written (Ok m) (Ok n) h = cc
+one_written (Ok m) (Err e) h = cc
+one_written (Err d) (Ok n) h = cc
+one_written (Err d) (Err e) h =
+    let n : number_of d ≡ number_of e = cc in ap Err (sym (refusal_is d) ∙ (ap refusal n ∙ refusal_is e))
 
 -- where the reader accepts it, a file is written; 9 if the output is too short for it
 unfoldable pub room_for : List ℕ → List ℕ → Answer → Written

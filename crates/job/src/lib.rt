@@ -2,16 +2,49 @@
 #![tactic(auto)]
 
 mod emit;
+mod kind;
 mod parse;
 mod record;
+mod table;
 
 ghost use Rattle.std.specs.Prelude.{◌≡◌};
 ghost use Rattle.job.specs.Job.{blank};
-ghost use Rattle.job.specs.Read.{refused, read_job, verdict_number, arrays_of, reading_of, reading_as};
-ghost use Rattle.job.specs.Write.{held_job, gathered, WrittenAs};
-ghost use Rattle.job.specs.Pass.{nothing_found, Filling};
+ghost use Rattle.job.specs.Topology.{Links};
+ghost use Rattle.job.specs.declared.Verdict.TheVariants.{Refused};
+ghost use Rattle.job.specs.Read.{IsRefused};
+ghost use Rattle.job.specs.Read.{read_job, verdict_number, arrays_of, reading_of, reading_as};
+ghost use Rattle.job.specs.Write.{written, job_held, WrittenAs};
+ghost use Rattle.job.specs.Pass.{Filling};
 
-// Processors n, topology (0 complete, 1 hypercube, 2 ring, 3 by its wires) and unit cost c (01: the rack).
+use kind::{LINK_LENGTH, RACK_LENGTH, RecordKind};
+pub use table::Refusal;
+
+// How processors are linked, by the number of the file (01: the rack's wiring; 02 §1).
+#[derive(Clone, Copy, Debug, PartialEq, Eq)]
+pub enum Topology {
+    Complete = 0,
+    Hypercube = 1,
+    Ring = 2,
+    Wired = 3,
+}
+
+impl TryFrom<u8> for Topology {
+    type Error = Refusal;
+
+    ghost try_from_gives = { Links };
+
+    fn try_from(number: u8) -> Result<Self, Refusal> {
+        match number {
+            0 => Ok(Topology::Complete),
+            1 => Ok(Topology::Hypercube),
+            2 => Ok(Topology::Ring),
+            3 => Ok(Topology::Wired),
+            _ => Err(Refusal::OutOfRange),
+        }
+    }
+}
+
+// Processors n, the number of the topology and unit cost c (01: the rack). The writer is handed any numbers, and judges them.
 #[derive(Clone, Copy)]
 pub struct Platform {
     pub processors: u8,
@@ -19,11 +52,11 @@ pub struct Platform {
     pub unit: u8,
 }
 
-// What reading a file finds: the counts of tasks and edges, or the refusal's number.
+// What reading a file finds: the counts of tasks and edges, or why it is refused, which has the number of the refusal table.
 #[derive(Clone, Copy)]
 pub enum Verdict {
     Counts { tasks: usize, edges: usize },
-    Refused(u8),
+    Refused(Refusal),
 }
 
 // A job's numbers: the duration of each task, the ends and the message count of each edge, under topology 3 the cost of the wire from
@@ -47,11 +80,13 @@ pub struct Reading {
     pub platform: Platform,
 }
 
-// What writing a job gives: the length written, or the refusal's number.
+// A job held as numbers: its platform, how many tasks and edges it has, and the arrays with the rest.
 #[derive(Clone, Copy)]
-pub enum Written {
-    Length(usize),
-    Refused(u8),
+pub struct HeldJob<'a> {
+    pub platform: Platform,
+    pub tasks: usize,
+    pub edges: usize,
+    pub arrays: &'a Arrays,
 }
 
 // The number of a refused file; 0 for an accepted one.
@@ -60,89 +95,36 @@ pub fn number(verdict: Verdict) -> u8
 {
     match verdict {
         Verdict::Counts { tasks: _, edges: _ } => 0,
-        Verdict::Refused(number) => number,
+        Verdict::Refused(refusal) => refusal.number(),
     }
 }
 
-fn zeros() -> Arrays
-    ensures { result ≡ arrays_of blank }
-{
-    Arrays {
-        durations: [0u32; 256],
-        from: [0u8; 1024],
-        to: [0u8; 1024],
-        counts: [0u16; 1024],
-        wires: [0u8; 256],
-        results: [0u16; 256],
-    }
-}
-
-fn refusal(number: u8) -> Reading
-    ensures { result ≡ reading_of (refused number) }
-{
-    let arrays = zeros();
-    Reading {
-        verdict: Verdict::Refused(number),
-        platform: Platform {
-            processors: 0,
-            topology: 0,
-            unit: 0,
-        },
-        arrays,
-    }
-}
-
-// Reads a job file (01: the reader).
-pub fn read(file: &[u8]) -> Reading
-    ensures { result ≡ reading_of (read_job file.now) }
-{
-    let rack = parse::rack(file);
-    if rack.trouble != 0 {
-        return refusal(rack.trouble);
-    }
-    let platform = rack.platform;
-    let mut arrays = zeros();
-    let wires = parse::wires(file, rack.next, platform, &mut arrays.wires);
-    if wires.trouble != 0 {
-        return refusal(wires.trouble);
-    }
-    let steps = parse::steps(file, wires.next, &mut arrays.durations);
-    if steps.trouble != 0 {
-        return refusal(steps.trouble);
-    }
-    let tasks = steps.count;
-    let mut edges: usize = 0;
-    let mut least: u32 = 0;
-    let mut at = steps.next;
-    while parse::stands(file, at, 3) {
-        let link = parse::link(file, at, tasks, edges, least);
-        if link.trouble != 0 {
-            return refusal(link.trouble);
+impl Verdict {
+    // Why a file is refused, of the verdict on one that is.
+    pub fn refusal(self) -> Refusal
+        requires { IsRefused self }
+        ensures { self ≡ Refused result }
+    {
+        match self {
+            Verdict::Counts { tasks: _, edges: _ } => unreachable!(),
+            Verdict::Refused(refusal) => refusal,
         }
-        arrays.from[edges] = link.from;
-        arrays.to[edges] = link.to;
-        arrays.counts[edges] = link.count;
-        edges += 1;
-        least = link.least;
-        at = link.next;
     }
-    let mut next = at;
-    if parse::stands(file, at, 6) {
-        let sent = record::senders(&arrays.from, edges);
-        let results = parse::results(file, at, tasks, &sent, &mut arrays.results);
-        if results.trouble != 0 {
-            return refusal(results.trouble);
+}
+
+impl Arrays {
+    // All places 0.
+    pub fn zeros() -> Arrays
+        ensures { result ≡ arrays_of blank }
+    {
+        Arrays {
+            durations: [0u32; 256],
+            from: [0u8; 1024],
+            to: [0u8; 1024],
+            counts: [0u16; 1024],
+            wires: [0u8; 256],
+            results: [0u16; 256],
         }
-        next = results.next;
-    }
-    let trouble = parse::end(file, next);
-    if trouble != 0 {
-        return refusal(trouble);
-    }
-    Reading {
-        verdict: Verdict::Counts { tasks, edges },
-        platform,
-        arrays,
     }
 }
 
@@ -153,11 +135,43 @@ pub struct Found {
     pub platform: Platform,
 }
 
-fn nothing(number: u8) -> Found
-    ensures { result ≡ nothing_found number }
+// Reads a job file into arrays that are all 0; on a refusal it does not count what they hold then.
+fn fill(file: &[u8], arrays: &mut Arrays) -> Result<Found, Refusal>
+    requires { arrays.old ≡ arrays_of blank }
+    ensures { Filling file.now arrays.new result }
+{
+    let platform = parse::rack(file)?;
+    let start = parse::wires(file, RACK_LENGTH, platform, &mut arrays.wires)?;
+    let steps = parse::steps(file, start, &mut arrays.durations)?;
+    let tasks = steps.count;
+    let mut edges: usize = 0;
+    let mut least: u32 = 0;
+    let mut at = steps.next;
+    while parse::stands(file, at, RecordKind::Link) {
+        let link = parse::link(file, at, tasks, edges, least)?;
+        arrays.from[edges] = link.from;
+        arrays.to[edges] = link.to;
+        arrays.counts[edges] = link.count;
+        edges += 1;
+        least = record::key(link.from, link.to) + 1;
+        at += LINK_LENGTH;
+    }
+    if parse::stands(file, at, RecordKind::Result) {
+        let sent = record::senders(&arrays.from, edges);
+        at = parse::results(file, at, tasks, &sent, &mut arrays.results)?;
+    }
+    parse::end(file, at)?;
+    let verdict = Verdict::Counts { tasks, edges };
+    Ok(Found { verdict, platform })
+}
+
+// What is found in a refused file.
+#[tactic(auto, unfolding(crate::specs::Job::blank))]
+fn nothing(refusal: Refusal) -> Found
+    ensures { result ≡ record { verdict = Refused refusal; platform = blank.platform } }
 {
     Found {
-        verdict: Verdict::Refused(number),
+        verdict: Verdict::Refused(refusal),
         platform: Platform {
             processors: 0,
             topology: 0,
@@ -166,158 +180,55 @@ fn nothing(number: u8) -> Found
     }
 }
 
-// Reads a job file into arrays that are all 0; on a refusal they are left as they are then.
-fn fill(
-    file: &[u8],
-    durations: &mut [u32; 256],
-    from: &mut [u8; 1024],
-    to: &mut [u8; 1024],
-    counts: &mut [u16; 1024],
-    wires: &mut [u8; 256],
-    results: &mut [u16; 256],
-) -> Found
-    requires { gathered durations.old from.old to.old counts.old wires.old results.old ≡ arrays_of blank }
-    ensures { Filling file.now result (gathered durations.new from.new to.new
-        counts.new wires.new results.new) }
+// Reads a job file (01: the reader). Built into its callers it would hold the arrays twice in each of them.
+#[inline(never)]
+pub fn read(file: &[u8]) -> Reading
+    ensures { result ≡ reading_of (read_job file.now) }
 {
-    let rack = parse::rack(file);
-    if rack.trouble != 0 {
-        return nothing(rack.trouble);
-    }
-    let platform = rack.platform;
-    let wired = parse::wires(file, rack.next, platform, wires);
-    if wired.trouble != 0 {
-        return nothing(wired.trouble);
-    }
-    let steps = parse::steps(file, wired.next, durations);
-    if steps.trouble != 0 {
-        return nothing(steps.trouble);
-    }
-    let tasks = steps.count;
-    let mut edges: usize = 0;
-    let mut least: u32 = 0;
-    let mut at = steps.next;
-    while parse::stands(file, at, 3) {
-        let link = parse::link(file, at, tasks, edges, least);
-        if link.trouble != 0 {
-            return nothing(link.trouble);
+    let mut arrays = Arrays::zeros();
+    let found = match fill(file, &mut arrays) {
+        Ok(found) => found,
+        Err(refusal) => {
+            let found = nothing(refusal);
+            return Reading {
+                arrays: Arrays::zeros(),
+                verdict: found.verdict,
+                platform: found.platform,
+            };
         }
-        from[edges] = link.from;
-        to[edges] = link.to;
-        counts[edges] = link.count;
-        edges += 1;
-        least = link.least;
-        at = link.next;
+    };
+    Reading {
+        arrays,
+        verdict: found.verdict,
+        platform: found.platform,
     }
-    let mut next = at;
-    if parse::stands(file, at, 6) {
-        let sent = record::senders(from, edges);
-        let delivered = parse::results(file, at, tasks, &sent, results);
-        if delivered.trouble != 0 {
-            return nothing(delivered.trouble);
-        }
-        next = delivered.next;
-    }
-    let trouble = parse::end(file, next);
-    if trouble != 0 {
-        return nothing(trouble);
-    }
-    let verdict = Verdict::Counts { tasks, edges };
-    Found { verdict, platform }
-}
-
-// Sets arrays to 0.
-fn forget(
-    durations: &mut [u32; 256],
-    from: &mut [u8; 1024],
-    to: &mut [u8; 1024],
-    counts: &mut [u16; 1024],
-    wires: &mut [u8; 256],
-    results: &mut [u16; 256],
-)
-    ensures { gathered durations.new from.new to.new
-        counts.new wires.new results.new ≡ arrays_of blank }
-{
-    *durations = [0u32; 256];
-    *from = [0u8; 1024];
-    *to = [0u8; 1024];
-    *counts = [0u16; 1024];
-    *wires = [0u8; 256];
-    *results = [0u16; 256];
 }
 
 // Reads a job file into arrays that the caller has: what `read` answers. What they held does not count; on a refusal all are 0.
-pub fn read_into(
-    file: &[u8],
-    durations: &mut [u32; 256],
-    from: &mut [u8; 1024],
-    to: &mut [u8; 1024],
-    counts: &mut [u16; 1024],
-    wires: &mut [u8; 256],
-    results: &mut [u16; 256],
-) -> Found
-    ensures { reading_as result (gathered durations.new from.new to.new
-        counts.new wires.new results.new) ≡ reading_of (read_job file.now) }
+pub fn read_into(file: &[u8], arrays: &mut Arrays) -> Found
+    ensures { reading_as result arrays.new ≡ reading_of (read_job file.now) }
 {
-    forget(durations, from, to, counts, wires, results);
-    let found = fill(file, durations, from, to, counts, wires, results);
-    let verdict = found.verdict;
-    let Verdict::Counts { tasks: _, edges: _ } = verdict else {
-        forget(durations, from, to, counts, wires, results);
-        return found;
-    };
-    found
+    *arrays = Arrays::zeros();
+    match fill(file, arrays) {
+        Ok(found) => found,
+        Err(refusal) => {
+            *arrays = Arrays::zeros();
+            nothing(refusal)
+        }
+    }
 }
 
-// Writes a job held as numbers: its platform and wires, the durations and results of its first `tasks` tasks and its first `edges` edges
-// (01: the writer).
-// Nothing is written before the whole job is judged.
-pub fn write(
-    platform: Platform,
-    tasks: usize,
-    edges: usize,
-    arrays: Arrays,
-    out: &mut [u8],
-) -> Written
-    ensures { WrittenAs result out.new tasks edges (held_job platform tasks edges arrays) out.old }
+// Writes a job held as numbers, and answers the length written: its platform and wires, the durations and results of its first `tasks`
+// tasks and its first `edges` edges (01: the writer). Nothing is written before the whole job is judged.
+pub fn write(job: &HeldJob, out: &mut [u8]) -> Result<usize, Refusal>
+    ensures { WrittenAs (written result) out.new job.now.tasks job.now.edges (job_held job.now) out.old }
 {
-    if 256 < tasks {
-        return Written::Refused(5);
+    if 256 < job.tasks || 1024 < job.edges {
+        return Err(Refusal::TooMany);
     }
-    if 1024 < edges {
-        return Written::Refused(5);
+    let judged = emit::judge(job)?;
+    if out.len() < judged.file_length() {
+        return Err(Refusal::ShortSlice);
     }
-    let many = emit::result_count(&arrays.results, tasks);
-    let number = emit::job_trouble(
-        platform,
-        tasks,
-        edges,
-        many,
-        &arrays.durations,
-        &arrays.from,
-        &arrays.to,
-        &arrays.counts,
-        &arrays.wires,
-        &arrays.results,
-    );
-    if 0 < number {
-        return Written::Refused(number);
-    }
-    if out.len() < emit::file_length(platform, tasks, edges, many) {
-        return Written::Refused(9);
-    }
-    let length = emit::put_job(
-        platform,
-        tasks,
-        edges,
-        many,
-        &arrays.durations,
-        &arrays.from,
-        &arrays.to,
-        &arrays.counts,
-        &arrays.wires,
-        &arrays.results,
-        out,
-    );
-    Written::Length(length)
+    Ok(judged.put(out))
 }

@@ -1,12 +1,13 @@
 -- The calls from C over the calls on slices: the numbers that the answers stand for, and the plan as bytes.
 use Rattle.std.proofs.Math.Option.{Option, none, some}
-use Rattle.std.specs.Prelude.{◌≡◌, refl, List, ◌++◌, ℕ, ◌*◌, ◌≤◌, ◌<◌, ltb, length, drop}
+use Rattle.std.specs.Prelude.{◌≡◌, Result, Ok, Err, refl, List, ◌++◌, ℕ, ◌*◌, ◌≤◌, ◌<◌, ltb, length, drop}
 use Rattle.std.proofs.Common.{ap, sym, ◌∙◌, arith}
 use borrow.Author.Tests.{lt-ltb, le-ltb}
 use Rattle.std.proofs.Math.ListN.{get_or}
 use Rattle.base.specs.Choice.{pick}
 use Rattle.base.specs.Slices.{filled}
 use Rattle.base.specs.Laws.Filled.{filled_at}
+use Rattle.job.specs.declared.table.Refusal.{Refusal}
 use Rattle.job.specs.Limits.{most_tasks}
 use Rattle.job.specs.Job.{Job}
 use Rattle.job.specs.Read.{Answer, accepted, refused, read_job}
@@ -15,10 +16,10 @@ use Rattle.etf.specs.Instance.{Instance, tasks}
 use Rattle.etf.specs.OfJob.{instance, TieRule}
 use Rattle.etf.proofs.Jobs.{same_tasks}
 use Rattle.etf.proofs.Laws.OfJob.{few}
-use Rattle.schedule.specs.declared.Planned.{Planned}
-use Rattle.schedule.specs.declared.Planned.TheVariants.{Plan, Refused}
-use Rattle.schedule.specs.declared.Checked.{Checked}
-use Rattle.schedule.specs.declared.Checked.TheVariants.{Yes, Refused as NotChecked}
+use Rattle.schedule.specs.Answers.Planned.{Planned, Plan, Refused, as_planned}
+use Rattle.schedule.specs.Answers.Number.{answer_number}
+use Rattle.schedule.specs.Answers.Checked.{Checked, Yes, Refused as NotChecked, as_checked}
+use Rattle.schedule.specs.declared.Outcome.{Outcome}
 use Rattle.schedule.specs.Call.{Call, start_of, processor_of, arrival_places, laid_out_call, plan_by, is_too_short, call_for}
 use Rattle.schedule.specs.Plan.{outcome_by, plan_call_by}
 use Rattle.schedule.specs.Check.{check_of, checked_as, number_of, check_for, check_call}
@@ -27,15 +28,24 @@ use Rattle.kelvrist.specs.PlanBytes.{BytesCall, returned, plan_bytes, processor_
 use Rattle.kelvrist.specs.PlanBytes.{plan_bytes_for, plan_bytes_call_by, check_bytes_for, check_bytes_call}
 use Rattle.kelvrist.specs.Laws.Encoded.{plan_bytes_same}
 
--- 01: "Each returns 0 or the refusal's number": of the planner's answer, an outcome or a refusal
+-- 01: "Each returns 0 or the refusal's number": of the planner's answer, an outcome or a refusal, ..
 abbrev pub plan_number : Planned → ℕ
 plan_number (Plan o) = 0
 plan_number (Refused k) = k
 
--- and of the checker's, a yes or a refusal
+-- .. and of the checker's, a yes or a refusal
 abbrev pub check_number : Checked → ℕ
 check_number Yes = 0
 check_number (NotChecked k) = k
+
+-- a result has the number of the answer that it is read as
+pub planned_number : (r : Result Outcome Refusal) → answer_number r ≡ plan_number (as_planned r)
+planned_number (Ok o) = refl
+planned_number (Err e) = refl
+
+pub checked_number : (r : Result Unit Refusal) → answer_number r ≡ check_number (as_checked r)
+checked_number (Ok x) = refl
+checked_number (Err e) = refl
 
 -- the planner's answer with its starts and processors, as a call from C that is lent these bytes for the plan
 abbrev answer_in_bytes : Planned → List ℕ → List ℕ → List ℕ → BytesCall

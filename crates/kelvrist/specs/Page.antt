@@ -1,5 +1,5 @@
 -- The page from C: the call returns the number of the call on slices and leaves its bytes, and it draws the plans that the checker accepts.
-use Rattle.std.specs.Prelude.{Bool, ◌≡◌, List, ltb, length, get_or}
+use Rattle.std.specs.Prelude.{Bool, ◌≡◌, Result, Ok, Err, List, ltb, length, get_or}
 use Rattle.std.proofs.Math.Bool.{true, false}
 use Rattle.std.proofs.Math.Logic.{⊎_elim}
 use Rattle.std.proofs.Math.Path.{refl, sym}
@@ -8,16 +8,18 @@ use Prim.Native.Nat.{ℕ, ◌*◌, ◌≤◌, ◌<◌}
 use Rattle.base.specs.Choice.{pick}
 use Rattle.base.specs.Laws.Lists.{map-upto_at, map-upto-length}
 use Rattle.base.specs.Laws.Tests.{lt_or_ge}
+use Rattle.job.specs.declared.table.Refusal.{Refusal}
 use Rattle.job.specs.Job.{Job}
 use Rattle.job.specs.Read.{Answer, accepted, refused, read_job}
 use Rattle.etf.specs.Instance.{tasks}
 use Rattle.etf.specs.OfJob.{instance}
-use Rattle.schedule.specs.declared.Checked.{Checked}
-use Rattle.schedule.specs.declared.Checked.TheVariants.{Yes, Refused as NotChecked}
+use Rattle.schedule.specs.Answers.Checked.{Checked, Yes, Refused as NotChecked}
 use Rattle.schedule.specs.Check.{check_call}
+use Rattle.gantt.specs.Answer.{as_drawn as as_drawn_answer}
 use Rattle.gantt.specs.Page.{page_length}
 use Rattle.gantt.specs.Draw.{drawn_by, draw_for, draw_call}
 use Rattle.gantt.specs.Places.{SamePlan, drawn_same}
+use Rattle.schedule.specs.Answers.Number.{answer_number}
 use Rattle.kelvrist.specs.PlanBytes.{processor_in, start_in, check_bytes_call}
 use Rattle.kelvrist.specs.PageBytes.{drew, page_number, as_drawn_call, starts_in, processors_in, page_bytes_for, page_bytes_call}
 use Rattle.kelvrist.specs.Numbers.{check_number, check_passes_on, check_short, check_number_lem}
@@ -37,6 +39,11 @@ module _ (m : ℕ) (plan : List ℕ) where
 
   task_in : (T : ℕ) → T < m → (get_or (starts_in m plan) T 0 ≡ start_in plan T) × (get_or (processors_in m plan) T 0 ≡ processor_in plan T)
   task_in T i = (map-upto_at (start_in plan) m T 0 i, map-upto_at (processor_in plan) m T 0 i)
+
+-- a result has the number of the answer that it is read as
+pub drawn_number : (r : Result ℕ Refusal) → answer_number r ≡ page_number (as_drawn_answer r)
+drawn_number (Ok n) = refl
+drawn_number (Err e) = refl
 
 -- the number of a drawing is that of the judgement that it goes by
 same_number : (c : Checked) (n : ℕ) (drawing page : List ℕ) → page_number (drawn_by c n drawing page).answer ≡ check_number c

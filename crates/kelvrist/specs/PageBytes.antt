@@ -5,8 +5,7 @@ use Rattle.base.specs.Lists.{upto}
 use Rattle.job.specs.Read.{Answer, accepted, refused, read_job}
 use Rattle.etf.specs.Instance.{tasks}
 use Rattle.etf.specs.OfJob.{instance}
-use Rattle.gantt.specs.declared.Drawn.{Drawn}
-use Rattle.gantt.specs.declared.Drawn.TheVariants.{Length, Refused}
+use Rattle.gantt.specs.Answer.{Drawn, Length, Refused}
 use Rattle.gantt.specs.Draw.{DrawCall, draw_for}
 use Rattle.kelvrist.specs.PlanBytes.{processor_in, start_in}
 

@@ -1,11 +1,17 @@
 -- What private functions promise one another.
-use Rattle.std.specs.Prelude.{◌≡◌, List, ℕ, ◌*◌, ◌≤◌, ◌<◌, ltb, length, get_or}
+use Rattle.std.specs.Prelude.{◌≡◌, Result, MatchResult, List, ℕ, ◌*◌, ◌≤◌, ◌<◌, ltb, length, get_or}
 use Rattle.base.specs.Choice.{pick}
+use Rattle.job.specs.declared.table.Refusal.{Refusal}
 use Rattle.job.specs.Job.{Job}
 use Rattle.job.specs.Read.{Answer, accepted, refused, read_job}
+use Rattle.job.specs.Table.{number_of}
 use Rattle.etf.specs.Instance.{tasks}
 use Rattle.etf.specs.OfJob.{instance}
 use Rattle.kelvrist.specs.PlanBytes.{processor_in, start_in}
+
+-- the answer to a file: accepted as a job of so many tasks, or refused
+abbrev pub HasTasks : Answer → Result ℕ Refusal → Type 0
+HasTasks a r = MatchResult r (λ m. (j : Job) × (a ≡ accepted j) × (tasks (instance j) ≡ m)) (λ e. a ≡ refused (number_of e))
 
 -- the number by which a plan's bytes are refused before the plan is judged: a refused job's own, 9 for fewer than 5m bytes; else 0
 unfoldable pub taken_number : Answer → List ℕ → ℕ

@@ -8,11 +8,8 @@ fn put_task(plan: &mut [u8], at: usize, processor: u8, start: u32)
     requires { at + 5 ≤ length plan.old }
     ensures { plan.new ≡ sets plan.old at (task_bytes processor start) }
 {
-    plan[at] = processor;
-    plan[at + 1] = (start % 256) as u8;
-    plan[at + 2] = (start / 256 % 256) as u8;
-    plan[at + 3] = (start / 256 / 256 % 256) as u8;
-    plan[at + 4] = (start / 256 / 256 / 256 % 256) as u8;
+    let [first, second, third, fourth] = start.to_le_bytes();
+    plan[at..at + 5].copy_from_slice(&[processor, first, second, third, fourth]);
 }
 
 // Writes the first `tasks` tasks.
@@ -22,10 +19,8 @@ pub fn put(tasks: usize, starts: &[u32], processors: &[u8], plan: &mut [u8])
         plan_bytes tasks (λ T. get_or processors.now T 0) (λ T. get_or starts.now T 0)
         ++ drop (5 * tasks) plan.old }
 {
-    let mut t: usize = 0;
-    while t < tasks {
+    for t in 0..tasks {
         put_task(plan, 5 * t, processors[t], starts[t]);
-        t += 1;
     }
 }
 
@@ -36,11 +31,9 @@ pub fn get(tasks: usize, plan: &[u8], starts: &mut [u32], processors: &mut [u8])
         (get_or starts.new T 0 ≡ start_in plan.now T)
         × (get_or processors.new T 0 ≡ processor_in plan.now T) }
 {
-    let mut t: usize = 0;
-    while t < tasks {
+    for t in 0..tasks {
         let at = 5 * t;
         processors[t] = plan[at];
-        starts[t] = base::number4(plan[at + 1], plan[at + 2], plan[at + 3], plan[at + 4]);
-        t += 1;
+        starts[t] = u32::from_le_bytes([plan[at + 1], plan[at + 2], plan[at + 3], plan[at + 4]]);
     }
 }

@@ -6,92 +6,80 @@ mod encoding;
 
 ghost use Rattle.std.specs.Prelude.{◌≡◌, [], ◌≤◌, length};
 ghost use Rattle.job.specs.Limits.{most_tasks};
-ghost use Rattle.job.specs.Read.{read_job, reading_of};
+ghost use Rattle.job.specs.Read.{read_job};
 ghost use Rattle.priority.specs.Orders.{instance_by};
 ghost use Rattle.schedule.specs.declared.Outcome.{Outcome};
-ghost use Rattle.schedule.specs.declared.Planned.TheVariants.{Plan};
+ghost use Rattle.schedule.specs.Answers.Number.{answer_number};
+ghost use Rattle.schedule.specs.Answers.Planned.{as_planned};
 ghost use Rattle.schedule.specs.Call.{called};
 ghost use Rattle.kelvrist.specs.PlanBytes.{returned, plan_bytes_call_by, plan_bytes_call, weight_bytes_call, check_bytes_call};
-ghost use Rattle.kelvrist.specs.PageBytes.{page_number, drew, page_bytes_call};
-ghost use Rattle.kelvrist.specs.Numbers.{plan_number, check_number, in_bytes};
-ghost use Rattle.kelvrist.specs.Pass.{Taken};
+ghost use Rattle.kelvrist.specs.PageBytes.{drew, page_bytes_call};
+ghost use Rattle.kelvrist.specs.Numbers.{in_bytes};
+ghost use Rattle.kelvrist.specs.Pass.{HasTasks, Taken};
 
-use gantt::Drawn;
-use job::Verdict;
+use job::{Refusal, Verdict};
 use priority::Ties;
-use schedule::{Checked, Planned};
+use schedule::Outcome;
 
-// 0 for a plan, or the refusal's number.
-fn plan_number(planned: Planned) -> u32
-    ensures { result ≡ plan_number planned }
+// 0 for an acceptance, or the refusal's number (01: "Each returns 0 or the refusal's number").
+pub fn answer_number<T: Copy>(answer: Result<T, Refusal>) -> u32
+    ensures { result ≡ answer_number answer }
 {
-    match planned {
-        Planned::Plan(_) => 0,
-        Planned::Refused(number) => base::wide8(number),
+    match answer {
+        Ok(_) => 0,
+        Err(refusal) => u32::from(refusal.number()),
     }
 }
 
-// 0 for a yes, or the refusal's number.
-fn check_number(checked: Checked) -> u32
-    ensures { result ≡ check_number checked }
-{
-    match checked {
-        Checked::Yes => 0,
-        Checked::Refused(number) => base::wide8(number),
-    }
-}
-
-// 0 for a page, or the refusal's number.
-fn page_number(drawn: Drawn) -> u32
-    ensures { result ≡ page_number drawn }
-{
-    match drawn {
-        Drawn::Length(_) => 0,
-        Drawn::Refused(number) => base::wide8(number),
-    }
-}
-
-// What the reader finds in a job's bytes. The job itself, some 6 KB, is gone from the stack when the plan is judged.
-fn verdict_on(job: &[u8]) -> Verdict
-    ensures { result ≡ (reading_of (read_job job.now)).verdict }
+// How many tasks the job of these bytes has. The job itself, some 6 KB, is gone from the stack when the plan is judged.
+fn tasks_of(job: &[u8]) -> Result<usize, Refusal>
+    ensures { HasTasks (read_job job.now) result }
 {
     let r = job::read(job);
-    r.verdict
+    let Verdict::Counts { tasks, edges: _ } = r.verdict else {
+        return Err(r.verdict.refusal());
+    };
+    Ok(tasks)
 }
 
-// Takes a plan's tasks off its bytes, as many as the job of `job` has: 0, or the refusal's number. No byte past 5m is read.
-fn take_plan(job: &[u8], plan: &[u8], starts: &mut [u32], processors: &mut [u8]) -> u32
+// Takes a plan's tasks off its bytes, as many as the job of `job` has. No byte past 5m is read.
+fn take_plan(
+    job: &[u8],
+    plan: &[u8],
+    starts: &mut [u32],
+    processors: &mut [u8],
+) -> Result<(), Refusal>
     requires { (most_tasks ≤ length starts.old) × (most_tasks ≤ length processors.old) }
-    ensures { Taken job.now plan.now result starts.new processors.new }
+    ensures { Taken job.now plan.now (answer_number result) starts.new processors.new }
 {
-    let verdict = verdict_on(job);
-    let Verdict::Counts { tasks, edges: _ } = verdict else {
-        return base::wide8(job::number(verdict));
-    };
+    let tasks = tasks_of(job)?;
     let bytes = 5 * tasks;
     if plan.len() < bytes {
-        return 9;
+        return Err(Refusal::ShortSlice);
     }
     encoding::get(tasks, plan, starts, processors);
-    0
+    Ok(())
 }
 
-// Puts what a planner answers and leaves in its arrays into 5 bytes a task of `plan`: 0, or the refusal's number.
-fn put_plan(planned: Planned, starts: &[u32], processors: &[u8], plan: &mut [u8]) -> u32
-    requires { (o : Outcome) → planned ≡ Plan o →
+// Puts what a planner answers and leaves in its arrays into 5 bytes a task of `plan`.
+fn put_plan(
+    planned: Result<Outcome, Refusal>,
+    starts: &[u32],
+    processors: &[u8],
+    plan: &mut [u8],
+) -> Result<(), Refusal>
+    requires { (o : Outcome) → planned ≡ Ok o →
         (o.tasks ≤ most_tasks) × (o.tasks ≤ length starts.now) × (o.tasks ≤ length processors.now) }
-    ensures { returned result plan.new ≡
-        in_bytes (called planned starts.now processors.now []) plan.old }
+    ensures { returned (answer_number result) plan.new ≡
+        in_bytes (called (as_planned planned) starts.now processors.now []) plan.old }
 {
-    let Planned::Plan(outcome) = planned else {
-        return plan_number(planned);
-    };
+    let outcome = planned?;
     let tasks = outcome.tasks;
     if plan.len() < 5 * tasks {
-        return 9;
+        return Err(Refusal::ShortSlice);
     }
     encoding::put(tasks, starts, processors, plan);
-    0
+    Ok(())
 }
 
 // Plans the job of `job` into 5 bytes a task of `plan`, ties in start going by `ties`: 0, or the refusal's number. The arrays stand here,
@@ -103,7 +91,7 @@ fn plan_by(ties: Ties, job: &[u8], plan: &mut [u8]) -> u32
     let mut processors = [0u8; 256];
     let mut scratch = [0u32; 4096];
     let planned = schedule::plan_by(ties, job, &mut starts, &mut processors, &mut scratch);
-    put_plan(planned, &starts, &processors, plan)
+    answer_number(put_plan(planned, &starts, &processors, plan))
 }
 
 // Plans the job of `job` into 5 bytes a task of `plan`: 0, or the refusal's number.
@@ -128,21 +116,35 @@ pub fn kelvrist_plan_small(job: &[u8], plan: &mut [u8]) -> u32
     let mut processors = [0u8; 256];
     let mut scratch = [0u32; 512];
     let planned = schedule::plan_small(job, &mut starts, &mut processors, &mut scratch);
-    put_plan(planned, &starts, &processors, plan)
+    answer_number(put_plan(planned, &starts, &processors, plan))
+}
+
+// What the checker says of 5 bytes a task of `plan` for the job of `job`.
+fn check_plan(job: &[u8], plan: &[u8]) -> Result<(), Refusal>
+    ensures { answer_number result ≡ check_bytes_call job.now plan.now }
+{
+    let mut starts = [0u32; 256];
+    let mut processors = [0u8; 256];
+    take_plan(job, plan, &mut starts, &mut processors)?;
+    schedule::check(job, &starts, &processors)
 }
 
 // Judges 5 bytes a task of `plan` for the job of `job`: 0 for a yes, or the refusal's number. No byte past 5m is read.
 pub fn kelvrist_check(job: &[u8], plan: &[u8]) -> u32
     ensures { result ≡ check_bytes_call job.now plan.now }
 {
+    let checked = check_plan(job, plan);
+    answer_number(checked)
+}
+
+// What drawing 5 bytes a task of `plan` for the job of `job` at the front of `page` gives: the page's length (02 §3).
+fn draw_plan(job: &[u8], plan: &[u8], page: &mut [u8]) -> Result<usize, Refusal>
+    ensures { drew (answer_number result) page.new ≡ page_bytes_call job.now plan.now page.old }
+{
     let mut starts = [0u32; 256];
     let mut processors = [0u8; 256];
-    let number = take_plan(job, plan, &mut starts, &mut processors);
-    if 0 < number {
-        return number;
-    }
-    let checked = schedule::check(job, &starts, &processors);
-    check_number(checked)
+    take_plan(job, plan, &mut starts, &mut processors)?;
+    gantt::draw(job, &starts, &processors, page)
 }
 
 // Draws the page of 5 bytes a task of `plan` for the job of `job` at the front of `page` (02 §3): 0, or the refusal's number. No byte
@@ -150,12 +152,6 @@ pub fn kelvrist_check(job: &[u8], plan: &[u8]) -> u32
 pub fn kelvrist_page(job: &[u8], plan: &[u8], page: &mut [u8]) -> u32
     ensures { drew result page.new ≡ page_bytes_call job.now plan.now page.old }
 {
-    let mut starts = [0u32; 256];
-    let mut processors = [0u8; 256];
-    let trouble = take_plan(job, plan, &mut starts, &mut processors);
-    if 0 < trouble {
-        return trouble;
-    }
-    let drawn = gantt::draw(job, &starts, &processors, page);
-    page_number(drawn)
+    let drawn = draw_plan(job, plan, page);
+    answer_number(drawn)
 }

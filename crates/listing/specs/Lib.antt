@@ -1,5 +1,4 @@
 pub mod Listing
 pub mod Cases
 pub mod Printed
-pub mod Pass
 pub mod Laws

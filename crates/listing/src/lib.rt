@@ -7,34 +7,9 @@ ghost use Rattle.std.specs.Prelude.{◌≡◌, ℕ, ◌+◌, ◌*◌, ◌≤◌,
 ghost use Rattle.base.specs.Slices.{Put};
 ghost use Rattle.listing.specs.Listing.{header as header_of, task_line, task_lines, figures as figures_of, refusal_line};
 ghost use Rattle.listing.specs.Listing.{listed, put_first, listing_call};
-ghost use Rattle.listing.specs.Pass.{end_in, figures_in};
 
 use job::Verdict;
-use schedule::{Covered, Figures, Planned};
-
-// The end that the planner reports; 0 on a refusal.
-fn end_in(planned: Planned) -> u32
-    ensures { result ≡ end_in planned }
-{
-    match planned {
-        Planned::Plan(outcome) => outcome.end,
-        Planned::Refused(_) => 0,
-    }
-}
-
-// What the cover call reports; zeros on a refusal.
-fn figures_in(covered: Covered) -> Figures
-    ensures { result ≡ figures_in covered }
-{
-    match covered {
-        Covered::Cover(reported) => reported,
-        Covered::Refused(_) => Figures {
-            cover: 0,
-            least: 0,
-            dearest: 0,
-        },
-    }
-}
+use schedule::Figures;
 
 // The first line.
 fn header(out: &mut [u8], processors: u8, tasks: usize, edges: usize) -> usize
@@ -43,7 +18,7 @@ fn header(out: &mut [u8], processors: u8, tasks: usize, edges: usize) -> usize
     ensures upper_bound { result ≤ 38 }
 {
     let first = put::word(out, 0, b"plan ");
-    let second = put::field(out, first, base::wide8(processors), b' ');
+    let second = put::field(out, first, u32::from(processors), b' ');
     let third = put::field(out, second, tasks as u32, b' ');
     put::field(out, third, edges as u32, b'\n')
 }
@@ -77,19 +52,17 @@ fn lines<'a>(
         (λ T. get_or durations.now T 0)) }
     ensures upper_bound { result ≤ at + 44 * tasks }
 {
-    let mut t: usize = 0;
     let mut place = at;
-    while t < tasks {
+    for t in 0..tasks {
         let finish = starts[t] + durations[t];
         place = task(
             out,
             place,
             t as u32,
-            base::wide8(processors[t]),
+            u32::from(processors[t]),
             starts[t],
             finish,
         );
-        t += 1;
     }
     place
 }
@@ -112,7 +85,7 @@ pub fn refusal(number: u8, out: &mut [u8; 12288]) -> usize
     ensures out_after { listed result out.new ≡ put_first (refusal_line number) out.old }
     ensures upper_bound { result ≤ 12288 }
 {
-    put::line(out, 0, b"refused ", base::wide8(number))
+    put::line(out, 0, b"refused ", u32::from(number))
 }
 
 // Writes the listing of a file's job to the front of `out`, and answers its length (01: what program `plan` prints).
@@ -121,16 +94,19 @@ pub fn write(file: &[u8], out: &mut [u8; 12288]) -> usize
     ensures upper_bound { result ≤ 12288 }
 {
     let r = job::read(file);
-    let verdict = r.verdict;
-    let Verdict::Counts { tasks, edges } = verdict else {
-        return refusal(job::number(verdict), out);
+    let Verdict::Counts { tasks, edges } = r.verdict else {
+        return refusal(job::number(r.verdict), out);
     };
     let mut starts = [0u32; 256];
     let mut processors = [0u8; 256];
     let mut scratch = [0u32; 4096];
-    let planned = schedule::plan(file, &mut starts, &mut processors, &mut scratch);
-    let covered = schedule::cover(file, &mut starts, &mut processors, &mut scratch);
+    let Ok(planned) = schedule::plan(file, &mut starts, &mut processors, &mut scratch) else {
+        unreachable!()
+    };
+    let Ok(reported) = schedule::cover(file, &mut starts, &mut processors, &mut scratch) else {
+        unreachable!()
+    };
     let first = header(out, r.platform.processors, tasks, edges);
     let last = lines(out, first, tasks, &r.arrays.durations, &starts, &processors);
-    figures(out, last, end_in(planned), figures_in(covered))
+    figures(out, last, planned.end, reported)
 }

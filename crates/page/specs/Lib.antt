@@ -1,4 +1,3 @@
 pub mod Printed
 pub mod Cases
-pub mod Pass
 pub mod Laws

@@ -6,21 +6,6 @@
 ghost use Rattle.std.specs.Prelude.{◌≡◌};
 ghost use Rattle.listing.specs.Listing.{listed};
 ghost use Rattle.page.specs.Printed.{print_call};
-ghost use Rattle.page.specs.Pass.{length_in};
-
-use gantt::Drawn;
-use input::Came;
-use schedule::Planned;
-
-// The length of the page that was drawn; 0 on a refusal.
-fn length_in(drawn: Drawn) -> usize
-    ensures { result ≡ length_in drawn }
-{
-    match drawn {
-        Drawn::Length(length) => length,
-        Drawn::Refused(_) => 0,
-    }
-}
 
 // Puts what is printed for a job file at the front of `out`, a refusal's line or the page of its plan, and answers its length.
 fn answer(file: &[u8], out: &mut [u8; 12288]) -> usize
@@ -29,19 +14,21 @@ fn answer(file: &[u8], out: &mut [u8; 12288]) -> usize
     let mut starts = [0u32; 256];
     let mut processors = [0u8; 256];
     let mut scratch = [0u32; 4096];
-    let planned = schedule::plan(file, &mut starts, &mut processors, &mut scratch);
-    if let Planned::Refused(number) = planned {
-        return listing::refusal(number, out);
+    if let Err(refusal) = schedule::plan(file, &mut starts, &mut processors, &mut scratch) {
+        return listing::refusal(refusal.number(), out);
     }
-    length_in(gantt::draw(file, &starts, &processors, out))
+    let Ok(length) = gantt::draw(file, &starts, &processors, out) else {
+        unreachable!()
+    };
+    length
 }
 
 fn main(rt: HostRuntime) {
     let mut input = [0u8; 16384];
     let came = input::read_all(&mut rt.stdin(), &mut input);
     let n = match came {
-        Came::Bytes(n) => n,
-        Came::Failed(error) => {
+        Ok(n) => n,
+        Err(error) => {
             let _ = eprintln!(rt; "page: read: {error}");
             return;
         }

@@ -6,7 +6,6 @@
 ghost use Rattle.std.specs.Prelude.{◌≡◌};
 ghost use Rattle.listing.specs.Listing.{listed, listing_call};
 
-use input::Came;
 use job::Verdict;
 
 // Puts what is printed for a job file at the front of `out`, a refusal's line or the listing of its plan, and answers its length.
@@ -14,9 +13,8 @@ fn answer(file: &[u8], out: &mut [u8; 12288]) -> usize
     ensures { listed result out.new ≡ listing_call file.now out.old }
 {
     let r = job::read(file);
-    let verdict = r.verdict;
-    let Verdict::Counts { tasks: _, edges: _ } = verdict else {
-        return listing::refusal(job::number(verdict), out);
+    let Verdict::Counts { .. } = r.verdict else {
+        return listing::refusal(job::number(r.verdict), out);
     };
     listing::write(file, out)
 }
@@ -25,8 +23,8 @@ fn main(rt: HostRuntime) {
     let mut input = [0u8; 16384];
     let came = input::read_all(&mut rt.stdin(), &mut input);
     let n = match came {
-        Came::Bytes(n) => n,
-        Came::Failed(error) => {
+        Ok(n) => n,
+        Err(error) => {
             let _ = eprintln!(rt; "plan: read: {error}");
             return;
         }

@@ -6,9 +6,9 @@ use Rattle.job.specs.Job.{Job, blank, with_rack, with_tasks, with_edges}
 use Rattle.job.specs.Cases.{computed}
 use Rattle.etf.specs.Cases.{answer}
 use Rattle.etf.specs.OfJob.{instance}
-use Rattle.schedule.specs.declared.Planned.TheVariants.{Plan, Refused}
-use Rattle.schedule.specs.declared.Covered.TheVariants.{Cover, Refused as NotCovered}
-use Rattle.schedule.specs.declared.Checked.TheVariants.{Yes, Refused as NotChecked}
+use Rattle.schedule.specs.Answers.Planned.{Plan, Refused}
+use Rattle.schedule.specs.Answers.Covered.{Cover, Refused as NotCovered}
+use Rattle.schedule.specs.Answers.Checked.{Yes, Refused as NotChecked}
 use Rattle.schedule.specs.Call.{called, start_of, processor_of, scratch_at, laid_out_call, is_too_short, call_for}
 use Rattle.schedule.specs.Plan.{end_by, outcome_by, plan_call_by, plan_call, weight_call}
 use Rattle.schedule.specs.Small.{laid_small, small_call}

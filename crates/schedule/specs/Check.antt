@@ -7,9 +7,7 @@ use Rattle.etf.specs.Instance.{Instance, tasks}
 use Rattle.etf.specs.Schedule.{schedule_of}
 use Rattle.etf.specs.Checker.{check}
 use Rattle.etf.specs.OfJob.{instance}
-use Rattle.schedule.specs.declared.Checked.{Checked}
-use Rattle.schedule.specs.declared.Checked.TheVariants.{Yes, Refused}
-use Rattle.schedule.specs.declared.Judged.{Judged}
+use Rattle.schedule.specs.Answers.Checked.{Checked, Yes, Refused, Judgement}
 use Rattle.schedule.specs.Call.{CallNumber}
 
 -- what the checker says of a plan, a processor and a start for each task; none is a yes.
@@ -44,5 +42,5 @@ unfoldable pub check_call : List ℕ → List ℕ → List ℕ → Checked
 check_call file starts processors = check_for (read_job file) starts processors
 
 -- what the reader finds in a file, and the checker's call for it
-unfoldable pub judge_call : List ℕ → List ℕ → List ℕ → Judged
+unfoldable pub judge_call : List ℕ → List ℕ → List ℕ → Judgement
 judge_call file starts processors = record { reading = reading_of (read_job file); checked = check_call file starts processors }

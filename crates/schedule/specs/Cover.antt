@@ -8,8 +8,7 @@ use Rattle.etf.specs.Dearest.{dearest}
 use Rattle.etf.specs.Least.{least}
 use Rattle.etf.specs.OfJob.{instance, instance_by_weight}
 use Rattle.schedule.specs.declared.Figures.{Figures}
-use Rattle.schedule.specs.declared.Covered.{Covered}
-use Rattle.schedule.specs.declared.Covered.TheVariants.{Cover, Refused}
+use Rattle.schedule.specs.Answers.Covered.{Covered, Cover, Refused}
 use Rattle.schedule.specs.Call.{Call, arrival_places, plan_by, call_for}
 
 -- 01: "the cover call C and the dearest chain of the planner's plan"; 02 §7: "Each cover call gives it after C", the least C of all walks

@@ -7,8 +7,14 @@ use Rattle.base.specs.Choice.{pick}
 use Rattle.base.specs.Rows.{most}
 use Rattle.etf.specs.Instance.{Instance}
 use Rattle.etf.specs.Topology.{entry}
-use Rattle.etf.specs.Bounds.{most_message_time, most_finish, most_chain}
+use Rattle.etf.specs.Bounds.{most_message_time, most_chain}
+use Rattle.schedule.specs.declared.timetable.Timetable.{Timetable}
+use Rattle.schedule.specs.declared.walk.Stretches.{Stretches}
+use Rattle.schedule.specs.declared.walk.Ticks.{Ticks}
+use Rattle.schedule.specs.declared.walk.Steps.{Steps}
+use Rattle.schedule.specs.declared.least.Prices.{Prices}
 use Rattle.schedule.specs.InArrays.{InArrays, reordered, instance_in, Plannable}
+use Rattle.schedule.specs.Handed.{in_arrays}
 use Rattle.schedule.specs.Call.{start_of, processor_of}
 use Rattle.schedule.specs.Pass.{message_at, reach_at}
 
@@ -50,6 +56,11 @@ pub record LatestOf (n : ℕ) (f : ℕ → ℕ) (latest set : ℕ) : Type 0 wher
   pub nowhere : set ≡ 0 → latest ≡ 1
 
 module _ (m : ℕ) (durations starts processors : List ℕ) where
+  -- no two of m tasks are at one time on one processor
+  abbrev pub Apart : Type 0
+  Apart = (T U : ℕ) → T < m → U < m → ¬ (T ≡ U) → get_or processors T 0 ≡ get_or processors U 0
+      → (get_or starts T 0 + get_or durations T 0 ≤ get_or starts U 0) ⊎ (get_or starts U 0 + get_or durations U 0 ≤ get_or starts T 0)
+
   -- a schedule of m tasks on n processors, no two at one time on one
   pub record Scheduled (n : ℕ) : Type 0 where
     pub few : m ≤ 256
@@ -58,10 +69,8 @@ module _ (m : ℕ) (durations starts processors : List ℕ) where
     pub has_starts : m ≤ length starts
     pub has_processors : m ≤ length processors
     pub takes_time : (T : ℕ) → T < m → 1 ≤ get_or durations T 0
-    pub in_time : (T : ℕ) → T < m → get_or starts T 0 + get_or durations T 0 ≤ most_finish
     pub on_processor : (T : ℕ) → T < m → get_or processors T 0 < n
-    pub apart : (T U : ℕ) → T < m → U < m → ¬ (T ≡ U) → get_or processors T 0 ≡ get_or processors U 0
-        → (get_or starts T 0 + get_or durations T 0 ≤ get_or starts U 0) ⊎ (get_or starts U 0 + get_or durations U 0 ≤ get_or starts T 0)
+    pub apart : Apart
 
   -- a task that runs on processor P in tick t
   pub record Running (P t : ℕ) : Type 0 where
@@ -219,3 +228,38 @@ pub record HoldsPlan (I : Instance) (m : ℕ) (starts processors : List ℕ) : T
 pub record HoldsIn (A : InArrays) (starts processors : List ℕ) (order : ℕ → ℕ) : Type 0 where
   pub plannable : Plannable (reordered order A)
   pub plan : HoldsPlan (instance_in (reordered order A)) A.tasks starts processors
+
+-- ---- the same of the structs that the code hands on
+
+-- from when on a processor is busy up to `start`
+abbrev pub busy_since : Stretches → ℕ → ℕ → ℕ
+busy_since s = busy_from s.until s.since
+
+module _ (x : Timetable) where
+  -- no two tasks are at one time on one processor
+  abbrev pub ApartIn : Type 0
+  ApartIn = Apart x.instance.tasks x.instance.durations.now x.plan.starts.now x.plan.processors.now
+
+  -- the latest short tick before each task that has predecessors, by how many these are
+  abbrev pub TicksBy : (ℕ → ℕ) → Ticks → Type 0
+  TicksBy predecessors ticks = ShortTicks x.instance.tasks x.instance.durations.now x.plan.starts.now x.plan.processors.now
+      x.instance.processors predecessors ticks.latest ticks.idle
+
+  -- the moves back through the processors that `through` has
+  abbrev pub StepsBy : (ℕ → ℕ) → Steps → Type 0
+  StepsBy through steps = Moves 256 x.instance.edges x.instance.durations.now x.instance.from.now x.instance.to.now x.instance.counts.now
+      x.instance.costs.now x.plan.starts.now x.plan.processors.now through steps.back steps.time
+
+  -- what the messages of an edge cost, each
+  abbrev pub PricesOf : Prices → ℕ → ℕ → Type 0
+  PricesOf prices = Between x.instance.durations.now x.instance.from.now x.instance.counts.now x.instance.costs.now x.plan.starts.now
+      x.plan.processors.now prices.most prices.nearest
+
+  -- the least that a walk from each task takes, by the first l edges
+  abbrev pub LeastBy : Ticks → ℕ → List ℕ → Type 0
+  LeastBy ticks = LeastSums x.instance.durations.now x.instance.from.now x.instance.to.now x.instance.counts.now x.instance.costs.now
+      x.plan.starts.now x.plan.processors.now ticks.latest ticks.idle
+
+  -- it is the planner's schedule, the tasks in this order
+  abbrev pub PlannedIn : (ℕ → ℕ) → Type 0
+  PlannedIn = HoldsIn (in_arrays x.instance) x.plan.starts.now x.plan.processors.now

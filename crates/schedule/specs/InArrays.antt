@@ -91,3 +91,47 @@ pub record Plannable (A : InArrays) : Type 0 where
   pub to_size : length A.to ≡ 1024
   pub counts_size : length A.counts ≡ 1024
   pub row_size : (p : ℕ) → p < 16 → length (get_or A.costs p []) ≡ 16
+
+-- arrays that can be planned, the tasks in another order
+pub plannable_in_order : {A : InArrays} → Plannable A → {order : ℕ → ℕ} → Ordering A.tasks order → Plannable (reordered order A)
+plannable_in_order F ordered = record {
+  some_processor = F.some_processor;
+  few_processors = F.few_processors;
+  some_task = F.some_task;
+  few_tasks = F.few_tasks;
+  few_edges = F.few_edges;
+  takes_time = F.takes_time;
+  short = F.short;
+  forward = F.forward;
+  within = F.within;
+  rising = F.rising;
+  near = F.near;
+  ordered = ordered;
+  durations_size = F.durations_size;
+  from_size = F.from_size;
+  to_size = F.to_size;
+  counts_size = F.counts_size;
+  row_size = F.row_size;
+}
+
+-- the same but for the order, each fact with one proof at most: what stands beside an instance that is handed on
+pub record Ready (A : InArrays) : Type 0 where
+  pub some_processor : 1 ≤ A.processors
+  pub few_processors : A.processors ≤ 16
+  pub some_task : 1 ≤ A.tasks
+  pub few_tasks : A.tasks ≤ 256
+  pub few_edges : A.edges ≤ 1024
+  pub takes_time : (T : ℕ) → T < A.tasks → 1 ≤ get_or A.durations T 0
+  pub short : (T : ℕ) → T < A.tasks → get_or A.durations T 0 ≤ most_duration
+  pub forward : (k : ℕ) → k < A.edges → get_or A.from k 0 < get_or A.to k 0
+  pub within : (k : ℕ) → k < A.edges → get_or A.to k 0 < A.tasks
+  pub rising : (k : ℕ) → suc k < A.edges
+      → (get_or A.from k 0 ≤ get_or A.from (suc k) 0)
+      × (get_or A.from k 0 ≡ get_or A.from (suc k) 0 → get_or A.to k 0 < get_or A.to (suc k) 0)
+  -- messages of one edge take at most 800,000, whatever the count and the cost
+  pub near : (k p q : ℕ) → k < A.edges → get_or A.counts k 0 * entry A.costs p q ≤ most_message_time
+  pub durations_size : length A.durations ≡ 256
+  pub from_size : length A.from ≡ 1024
+  pub to_size : length A.to ≡ 1024
+  pub counts_size : length A.counts ≡ 1024
+  pub row_size : (p : ℕ) → p < 16 → length (get_or A.costs p []) ≡ 16

@@ -1,4 +1,7 @@
+pub mod InPlace
 pub mod InArrays
+pub mod Handed
+pub mod Answers
 pub mod Call
 pub mod Plan
 pub mod Small

@@ -6,9 +6,8 @@ use Rattle.job.specs.Accepted.{accepted_job}
 use Rattle.etf.specs.Instance.{Instance}
 use Rattle.etf.specs.OfJob.{TieRule}
 use Rattle.schedule.specs.declared.Outcome.{Outcome}
-use Rattle.schedule.specs.declared.Planned.{Planned}
-use Rattle.schedule.specs.declared.Planned.TheVariants.{Plan, Refused}
-use Rattle.schedule.specs.declared.Checked.TheVariants.{Yes}
+use Rattle.schedule.specs.Answers.Planned.{Planned, Plan, Refused}
+use Rattle.schedule.specs.Answers.Checked.{Yes}
 use Rattle.schedule.specs.Call.{laid_out_call}
 use Rattle.schedule.specs.Plan.{outcome_by, plan_call_by}
 use Rattle.schedule.specs.Check.{check_call}

@@ -5,20 +5,18 @@ use Rattle.std.specs.Prelude.{eqb, length, get_or, set}
 use Rattle.base.specs.Choice.{pick}
 use Rattle.base.specs.Lists.{values, upto, filter}
 use Rattle.base.specs.Rows.{sum, one_if, most}
-use Rattle.job.specs.Limits.{most_duration}
 use Rattle.etf.specs.Instance.{Instance, tasks}
 use Rattle.priority.specs.declared.Ties.{Ties}
 use Rattle.priority.specs.Orders.{order_by}
 use Rattle.etf.specs.Bounds.{most_message_time, most_finish}
 use Rattle.etf.specs.Topology.{entry}
 use Rattle.etf.specs.Checker.{latest_start}
-use Rattle.schedule.specs.declared.Checked.{Checked}
-use Rattle.schedule.specs.declared.Checked.TheVariants.{Refused}
-use Rattle.schedule.specs.declared.Laid.{Laid}
-use Rattle.schedule.specs.declared.Laid.TheVariants.{Last, Short}
+use Rattle.schedule.specs.Answers.Checked.{Checked, Refused}
+use Rattle.schedule.specs.Answers.Laid.{Laid, Last, Short}
 use Rattle.schedule.specs.declared.planner.Pair.{Pair}
 use Rattle.schedule.specs.declared.planner.Moment.{Moment}
 use Rattle.schedule.specs.declared.planner.Choice.{Choice}
+use Rattle.schedule.specs.declared.timetable.Timetable.{Timetable}
 use Rattle.schedule.specs.InArrays.{InArrays, reordered, instance_in}
 use Rattle.schedule.specs.Call.{Call, called, arrival_places, laid_out_call, is_too_short}
 use Rattle.schedule.specs.Plan.{last_of}
@@ -117,13 +115,18 @@ tables starts processors busy sent = record { starts = starts; processors = proc
 abbrev pub marked : ℕ → Inbox → Inbox
 marked T B = inbox B.arrivals (set B.waiting T placed_mark) B.latest
 
--- a look over processors and tasks: the next moment and, with the free processors listed somewhere, the pair
-pub record Looked (clock low m n : ℕ) (order : ℕ → ℕ) (B : Inbox) (busy : List ℕ) (r : Choice) : Type 0 where
+-- the arrivals of the tasks in a table
+abbrev pub table_arrival : List ℕ → ℕ → ℕ → ℕ
+table_arrival arrivals T P = get_or arrivals (16 * T + P) 0
+
+-- a look over processors and tasks, by the arrival of each task at each processor: the next moment and, with the free processors listed
+-- somewhere, the pair
+pub record Looked (clock low m n : ℕ) (order : ℕ → ℕ) (arrival : ℕ → ℕ → ℕ) (waiting latest busy : List ℕ) (r : Choice) : Type 0 where
   pub free : List ℕ
   pub count : ℕ
   pub next : r.next ≡ soonest busy clock n
   pub listed : values (λ i. get_or free i 0) 0 count ≡ free_among busy clock n
-  pub found : r.pair ≡ searched clock B.waiting B.latest order (row_of clock B.arrivals free count) low (m - low) no_pair
+  pub found : r.pair ≡ searched clock waiting latest order (λ T. row_by clock (arrival T) free count T) low (m - low) no_pair
 
 -- ---- placing a task
 
@@ -243,25 +246,23 @@ module _ (durations from counts : List ℕ) (costs : List (List ℕ)) (starts pr
   unfoldable pub reach_at : ℕ → ℕ → ℕ
   reach_at P k = get_or starts (get_or from k 0) 0 + get_or durations (get_or from k 0) 0 + message_at P k
 
-  -- the task that edge k comes from has its places in the arrays, and no time on the way to P passes 32 bits
-  pub record Sender (P k : ℕ) : Type 0 where
-    pub has_start : get_or from k 0 < length starts
-    pub has_duration : get_or from k 0 < length durations
-    pub has_processor : get_or from k 0 < length processors
-    pub on_processor : get_or processors (get_or from k 0) 0 < 16
-    pub in_time : get_or starts (get_or from k 0) 0 + get_or durations (get_or from k 0) 0 ≤ latest_start + most_duration
-    pub near : message_at P k ≤ most_message_time
+-- ---- the same of a schedule that has a place for each task
+
+module _ (x : Timetable) where
+  -- when task T finishes
+  abbrev pub finish_in : ℕ → ℕ
+  finish_in T = get_or x.plan.starts.now T 0 + get_or x.instance.durations.now T 0
+
+  -- what edge k's messages take to processor P, and when they are there
+  abbrev pub time_to : ℕ → ℕ → ℕ
+  time_to = message_at x.instance.durations.now x.instance.from.now x.instance.counts.now x.instance.costs.now x.plan.starts.now
+      x.plan.processors.now
+
+  abbrev pub there_at : ℕ → ℕ → ℕ
+  there_at = reach_at x.instance.durations.now x.instance.from.now x.instance.counts.now x.instance.costs.now x.plan.starts.now
+      x.plan.processors.now
 
 -- ---- the checker, in terms of the arrays
-
--- the first m tasks can be judged: their places are there, and no sum passes 32 bits
-pub record Judgeable (m : ℕ) (durations starts processors : List ℕ) : Type 0 where
-  pub few : m ≤ 256
-  pub has_durations : m ≤ length durations
-  pub has_starts : m ≤ length starts
-  pub has_processors : m ≤ length processors
-  pub short : (T : ℕ) → T < m → get_or durations T 0 ≤ most_duration
-  pub in_time : (T : ℕ) → T < m → get_or starts T 0 ≤ latest_start
 
 -- 10 or 11 for task T, or 0
 unfoldable pub place_trouble : ℕ → List ℕ → List ℕ → ℕ → ℕ
@@ -290,12 +291,14 @@ module _ (durations starts processors : List ℕ) where
   early_at from to counts costs k =
       ltb (get_or starts (get_or to k 0) 0) (reach_at durations from counts costs starts processors (get_or processors (get_or to k 0) 0) k)
 
-  -- edge k joins two tasks that can be judged: their places are there, and no sum passes 32 bits
-  pub record Joined (from to counts : List ℕ) (costs : List (List ℕ)) (k : ℕ) : Type 0 where
-    pub sender : Sender durations from counts costs starts processors (get_or processors (get_or to k 0) 0) k
-    pub has_start : get_or to k 0 < length starts
-    pub has_processor : get_or to k 0 < length processors
-    pub on_processor : get_or processors (get_or to k 0) 0 < 16
+-- the same of a schedule that has a place for each task
+module _ (x : Timetable) where
+  abbrev pub overlaps_in : ℕ → Bool
+  overlaps_in = overlaps_later x.instance.durations.now x.plan.starts.now x.plan.processors.now x.instance.tasks
+
+  abbrev pub early_in : ℕ → Bool
+  early_in = early_at x.instance.durations.now x.plan.starts.now x.plan.processors.now x.instance.from.now x.instance.to.now
+      x.instance.counts.now x.instance.costs.now
 
 -- ---- the checker's answer
 

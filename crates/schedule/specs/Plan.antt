@@ -7,8 +7,7 @@ use Rattle.etf.specs.Schedule.{last_finish, end}
 use Rattle.etf.specs.Rule.{planned}
 use Rattle.etf.specs.OfJob.{instance, instance_by_weight, result_of}
 use Rattle.schedule.specs.declared.Outcome.{Outcome}
-use Rattle.schedule.specs.declared.Planned.{Planned}
-use Rattle.schedule.specs.declared.Planned.TheVariants.{Plan, Refused}
+use Rattle.schedule.specs.Answers.Planned.{Planned, Plan, Refused}
 use Rattle.schedule.specs.Call.{Call, arrival_places, plan_by, call_for}
 
 -- the last finish of the planner's schedule

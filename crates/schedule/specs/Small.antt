@@ -4,8 +4,7 @@ use Rattle.base.specs.Slices.{filled}
 use Rattle.job.specs.Read.{read_job}
 use Rattle.etf.specs.Instance.{Instance, tasks}
 use Rattle.etf.specs.OfJob.{instance}
-use Rattle.schedule.specs.declared.Planned.{Planned}
-use Rattle.schedule.specs.declared.Planned.TheVariants.{Plan, Refused}
+use Rattle.schedule.specs.Answers.Planned.{Planned, Plan, Refused}
 use Rattle.schedule.specs.Call.{Call, called, start_of, processor_of, call_for}
 use Rattle.schedule.specs.Plan.{outcome}
 

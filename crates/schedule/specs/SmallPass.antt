@@ -1,23 +1,21 @@
 -- What the parts of the planner that works arrivals out (02 §4) promise one another, in terms of the arrays that they are handed.
 -- A reader of the public contracts needs nothing of this file.
 -- Of the scratch, place T has the latest finish among the placed predecessors of task T, and place 256 + T the finish of T once placed.
-use Rattle.std.specs.Prelude.{◌≡◌, List, [], ℕ, ◌+◌, ◌*◌, ◌-◌, ◌≤◌, ◌<◌, max, eqb, length, get_or, set}
+use Rattle.std.specs.Prelude.{◌≡◌, List, [], ℕ, ◌+◌, ◌*◌, ◌≤◌, ◌<◌, max, eqb, length, get_or, set}
 use Rattle.base.specs.Choice.{pick}
-use Rattle.base.specs.Lists.{values}
 use Rattle.base.specs.Rows.{sum, one_if, most}
 use Rattle.base.specs.Slices.{filled}
 use Rattle.graph.specs.Graph.{NextTo}
 use Rattle.etf.specs.Instance.{Instance, tasks}
 use Rattle.etf.specs.Bounds.{most_message_time, most_finish}
 use Rattle.etf.specs.Topology.{entry}
-use Rattle.schedule.specs.declared.Laid.{Laid}
-use Rattle.schedule.specs.declared.Laid.TheVariants.{Last, Short}
+use Rattle.schedule.specs.Answers.Laid.{Laid, Last, Short}
 use Rattle.schedule.specs.declared.planner.Pair.{Pair}
-use Rattle.schedule.specs.declared.planner.Choice.{Choice}
+use Rattle.schedule.specs.declared.small.Senders.{Senders}
 use Rattle.schedule.specs.Call.{Call, called, start_of, processor_of, is_too_short}
 use Rattle.schedule.specs.Plan.{last_of}
 use Rattle.schedule.specs.Small.{small_places, laid_small}
-use Rattle.schedule.specs.Pass.{soonest, free_among, no_pair, row_by, searched, sent_to, placed_mark, Skipped}
+use Rattle.schedule.specs.Pass.{sent_to, placed_mark, Skipped}
 
 -- ---- an arrival worked out
 
@@ -41,6 +39,11 @@ sources edges from to counts costs processors scratch = record {
   processors = processors;
   scratch = scratch;
 }
+
+abbrev pub sources_of : Senders → Sources
+sources_of x =
+    sources x.instance.now.edges x.instance.now.from.now x.instance.now.to.now x.instance.now.counts.now x.instance.now.costs.now
+    x.processors.now x.scratch.now
 
 -- edge k can be read, its sender is placed, and no sum passes 32 bits
 pub record Known (from counts : List ℕ) (costs : List (List ℕ)) (processors scratch : List ℕ) (k : ℕ) : Type 0 where
@@ -77,15 +80,12 @@ module _ (S : Sources) where
     pub known : (i : ℕ) → i < S.edges → get_or S.to i 0 ≡ T
         → Known S.from S.counts S.costs S.processors S.scratch i
 
--- ---- the search
+-- the same of what the functions are handed
+abbrev pub KnownBy : Senders → ℕ → Type 0
+KnownBy x k = Known x.instance.now.from.now x.instance.now.counts.now x.instance.now.costs.now x.processors.now x.scratch.now k
 
--- a look over processors and tasks: the next moment and, with the free processors listed somewhere, the pair
-pub record LookedOut (clock low m n : ℕ) (order : ℕ → ℕ) (S : Sources) (waiting busy : List ℕ) (r : Choice) : Type 0 where
-  pub free : List ℕ
-  pub count : ℕ
-  pub next : r.next ≡ soonest busy clock n
-  pub listed : values (λ i. get_or free i 0) 0 count ≡ free_among busy clock n
-  pub found : r.pair ≡ searched clock waiting S.scratch order (λ T. row_by clock (worked_out S T) free count T) low (m - low) no_pair
+abbrev pub WalkableBy : Senders → ℕ → Type 0
+WalkableBy x T = Walkable (sources_of x) x.next.now T (get_or x.first.now T 0)
 
 -- ---- placing a task
 

@@ -15,9 +15,8 @@ use Rattle.etf.specs.Instance.{tasks}
 use Rattle.etf.specs.OfJob.{instance}
 use Rattle.etf.proofs.Jobs.{by_number}
 use Rattle.schedule.specs.declared.Outcome.{Outcome}
-use Rattle.schedule.specs.declared.Planned.{Planned}
-use Rattle.schedule.specs.declared.Planned.TheVariants.{Plan, Refused}
-use Rattle.schedule.specs.declared.Checked.TheVariants.{Yes}
+use Rattle.schedule.specs.Answers.Planned.{Planned, Plan, Refused}
+use Rattle.schedule.specs.Answers.Checked.{Yes}
 use Rattle.schedule.specs.Call.{Call, called, arrival_places, laid_out_call, plan_by, is_too_short, CallNumber, call_for}
 use Rattle.schedule.specs.Plan.{outcome, plan_call, plan_call_by}
 use Rattle.schedule.specs.Small.{small_places, laid_small, small_call}

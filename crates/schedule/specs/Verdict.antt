@@ -11,8 +11,7 @@ use Rattle.etf.specs.Schedule.{Placement, schedule_of}
 use Rattle.etf.specs.Checker.{Keeps}
 use Rattle.etf.proofs.Verdict.{yes_exactly}
 use Rattle.etf.specs.OfJob.{instance}
-use Rattle.schedule.specs.declared.Checked.{Checked}
-use Rattle.schedule.specs.declared.Checked.TheVariants.{Yes, Refused}
+use Rattle.schedule.specs.Answers.Checked.{Checked, Yes, Refused}
 use Rattle.schedule.specs.Check.{check_of, checked_as, check_for}
 
 -- the plan that two slices hold

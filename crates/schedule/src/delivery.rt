@@ -3,32 +3,23 @@ ghost use Rattle.std.specs.Prelude.{◌≡◌, max};
 ghost use Rattle.base.specs.Rows.{most};
 ghost use Rattle.schedule.specs.Pass.{delivered_at, ToDeliver};
 
+use crate::instance::{Instance, Schedule};
+
 // The last finish, or when the last result is at processor 0 if that is later.
-pub fn end<'a>(
-    tasks: usize,
-    last: u32,
-    durations: &'a [u32; 256],
-    results: &'a [u16; 256],
-    costs: [[u32; 16]; 16],
-    starts: &[u32],
-    processors: &[u8],
-) -> u32
-    requires { ToDeliver tasks last durations.now results.now costs starts.now processors.now }
-    ensures { result ≡ max last (most tasks (delivered_at durations.now results.now costs
-        starts.now processors.now)) }
+pub fn end(instance: &Instance, results: &[u16; 256], plan: &Schedule, last: u32) -> u32
+    requires { ToDeliver instance.now.tasks last instance.now.durations.now results.now instance.now.costs.now
+        plan.now.starts.now plan.now.processors.now }
+    ensures { result ≡ max last (most instance.now.tasks (delivered_at instance.now.durations.now results.now instance.now.costs.now
+        plan.now.starts.now plan.now.processors.now)) }
 {
     let mut end = last;
-    let mut t: usize = 0;
-    while t < tasks {
-        let count = base::wide16(results[t]);
+    for t in 0..instance.tasks {
+        let count = u32::from(results[t]);
         if count != 0 {
-            let p = base::index(processors[t]);
-            let arrival = starts[t] + durations[t] + count * costs[p][0];
-            if end < arrival {
-                end = arrival;
-            }
+            let p = usize::from(plan.processors[t]);
+            let finish = plan.starts[t] + instance.durations[t];
+            end = end.max(finish + count * instance.costs[p][0]);
         }
-        t += 1;
     }
     end
 }

@@ -4,15 +4,22 @@
 mod chains;
 mod checker;
 mod delivery;
+mod instance;
 mod least;
 mod messages;
 mod planner;
 mod small;
+mod timetable;
 mod walk;
 
-ghost use Rattle.std.specs.Prelude.{◌≡◌, ℕ};
+ghost use Rattle.std.specs.Prelude.{◌≡◌, ℕ, length};
 ghost use Rattle.priority.specs.Orders.{instance_by};
-ghost use Rattle.schedule.specs.InArrays.{reordered, in_number_order, instance_in, Plannable};
+ghost use Rattle.schedule.specs.InArrays.{reordered, instance_in, Plannable};
+ghost use Rattle.schedule.specs.Handed.{in_arrays, read_in_arrays};
+ghost use Rattle.schedule.specs.Answers.Laid.{as_laid};
+ghost use Rattle.schedule.specs.Answers.Planned.{as_planned};
+ghost use Rattle.schedule.specs.Answers.Covered.{as_covered};
+ghost use Rattle.schedule.specs.Answers.Checked.{as_checked, as_judgement};
 ghost use Rattle.schedule.specs.Call.{called};
 ghost use Rattle.schedule.specs.Plan.{plan_call_by, plan_call, weight_call};
 ghost use Rattle.schedule.specs.Small.{small_call};
@@ -22,100 +29,93 @@ ghost use Rattle.schedule.specs.Pass.{short_of, tied_by, lay_call, said};
 ghost use Rattle.schedule.specs.SmallPass.{lay_small};
 ghost use Rattle.schedule.specs.CoverPass.{HoldsIn};
 
-use job::{Reading, Verdict};
+use instance::{Instance, Schedule};
+use job::{Arrays, Reading, Refusal, Verdict};
 use priority::Ties;
+use timetable::Timetable;
+use walk::Ticks;
 
 // What planning a job gives: the number of its tasks and the plan's end.
-#[derive(Clone, Copy)]
+#[derive(Clone, Copy, Debug, PartialEq, Eq)]
 pub struct Outcome {
     pub tasks: usize,
     pub end: u32,
 }
 
-// That, or the refusal's number.
-#[derive(Clone, Copy)]
-pub enum Planned {
-    Plan(Outcome),
-    Refused(u8),
-}
-
 // What the cover call gives: the cover, the least cover and the dearest chain of the planner's plan.
-#[derive(Clone, Copy)]
+#[derive(Clone, Copy, Debug, PartialEq, Eq)]
 pub struct Figures {
     pub cover: u32,
     pub least: u32,
     pub dearest: u32,
 }
 
-// That, or the refusal's number.
-#[derive(Clone, Copy)]
-pub enum Covered {
-    Cover(Figures),
-    Refused(u8),
-}
-
-// What checking a plan gives: a yes, or the refusal's number.
-#[derive(Clone, Copy)]
-pub enum Checked {
-    Yes,
-    Refused(u8),
-}
-
 // What the reader finds in a job file, and what the checker says of a plan for it.
 #[derive(Drop)]
 pub struct Judged {
     pub reading: Reading,
-    pub checked: Checked,
+    pub checked: Result<(), Refusal>,
 }
 
-// What laying a plan out gives: its last finish, or that a slice is too short.
-#[derive(Clone, Copy)]
-pub enum Laid {
-    Last(u32),
-    Short,
-}
-
-// Whether a slice is too short, by the lengths of the three: fewer starts or processors than tasks, or fewer places of scratch than asked.
-fn too_short(tasks: usize, starts: usize, processors: usize, scratch: usize, places: usize) -> bool
-    ensures { result ≡ short_of places tasks starts processors scratch }
+// Whether a slice is too short: fewer starts or processors than tasks, or fewer places of scratch than asked.
+fn too_short(
+    tasks: usize,
+    places: usize,
+    starts: &[u32],
+    processors: &[u8],
+    scratch: &[u32],
+) -> bool
+    ensures { result ≡ short_of places tasks (length starts.now) (length processors.now) (length scratch.now) }
 {
-    if starts < tasks {
-        return true;
-    }
-    if processors < tasks {
-        return true;
-    }
-    scratch < places
+    starts.len() < tasks || processors.len() < tasks || scratch.len() < places
 }
 
-// Lays the plan of an instance out in the slices, if there is room; ties in start go by `ties`.
-fn lay_out<'a>(
-    ties: Ties,
-    n: usize,
+// The instance of a job that was read, by its square of costs.
+fn instance_of<'a>(
+    reading: &'a Reading,
     tasks: usize,
     edges: usize,
-    durations: &'a [u32; 256],
-    from: &'a [u8; 1024],
-    to: &'a [u8; 1024],
-    counts: &'a [u16],
-    costs: [[u32; 16]; 16],
+    costs: &'a [[u32; 16]; 16],
+) -> Instance<'a>
+    requires { Plannable (read_in_arrays reading.now tasks edges costs.now) }
+    ensures { in_arrays result ≡ read_in_arrays reading.now tasks edges costs.now }
+{
+    Instance {
+        processors: usize::from(reading.platform.processors),
+        tasks,
+        edges,
+        durations: &reading.arrays.durations,
+        from: &reading.arrays.from,
+        to: &reading.arrays.to,
+        counts: &reading.arrays.counts,
+        costs,
+    }
+}
+
+// Lays the plan of an instance out in the slices, and gives its last finish, if there is room; ties in start go by `ties`.
+fn lay_out(
+    instance: &Instance,
+    ties: Ties,
     starts: &mut [u32],
     processors: &mut [u8],
     scratch: &mut [u32],
-) -> Laid
-    requires { Plannable (in_number_order n tasks edges durations.now from.now to.now counts.now costs) }
-    ensures { called result starts.new processors.new scratch.new ≡ lay_call (instance_in (tied_by ties
-        (in_number_order n tasks edges durations.now from.now to.now counts.now costs)))
-        starts.old processors.old scratch.old }
+) -> Option<u32>
+    ensures { called (as_laid result) starts.new processors.new scratch.new ≡
+        lay_call (instance_in (tied_by ties (in_arrays instance.now))) starts.old processors.old scratch.old }
 {
-    if too_short(tasks, starts.len(), processors.len(), scratch.len(), 4096) {
-        return Laid::Short;
+    if too_short(instance.tasks, 4096, starts, processors, scratch) {
+        return None;
     }
     base::clear(scratch, 4096);
-    let order = priority::order(ties, tasks, edges, durations, from, to);
-    Laid::Last(planner::run(
-        n, tasks, edges, &order, durations, from, to, counts, costs, starts, processors, scratch,
-    ))
+    let order = priority::order(
+        ties,
+        instance.tasks,
+        instance.edges,
+        instance.durations,
+        instance.from,
+        instance.to,
+    );
+    Some(planner::run(instance, &order, starts, processors, scratch))
 }
 
 // Plans the job of a file; ties in start go by `ties`. The two entries below are this one.
@@ -125,49 +125,32 @@ pub fn plan_by(
     starts: &mut [u32],
     processors: &mut [u8],
     scratch: &mut [u32],
-) -> Planned
-    ensures { called result starts.new processors.new scratch.new ≡ plan_call_by (instance_by ties)
+) -> Result<Outcome, Refusal>
+    ensures { called (as_planned result) starts.new processors.new scratch.new ≡ plan_call_by (instance_by ties)
         file.now starts.old processors.old scratch.old }
 {
     let r = job::read(file);
-    let verdict = r.verdict;
-    let Verdict::Counts { tasks, edges } = verdict else {
-        return Planned::Refused(job::number(verdict));
+    let Verdict::Counts { tasks, edges } = r.verdict else {
+        return Err(r.verdict.refusal());
     };
-    let n = base::index(r.platform.processors);
     let costs = costs::square(r.platform, &r.arrays.wires);
-    let laid = lay_out(
-        ties,
-        n,
-        tasks,
-        edges,
-        &r.arrays.durations,
-        &r.arrays.from,
-        &r.arrays.to,
-        &r.arrays.counts,
-        costs,
-        starts,
-        processors,
-        scratch,
-    );
-    let Laid::Last(last) = laid else {
-        return Planned::Refused(9);
+    let instance = instance_of(&r, tasks, edges, &costs);
+    let Some(last) = lay_out(&instance, ties, starts, processors, scratch) else {
+        return Err(Refusal::ShortSlice);
     };
-    let end = delivery::end(
-        tasks,
-        last,
-        &r.arrays.durations,
-        &r.arrays.results,
-        costs,
-        starts,
-        processors,
-    );
-    Planned::Plan(Outcome { tasks, end })
+    let plan = Schedule { starts, processors };
+    let end = delivery::end(&instance, &r.arrays.results, &plan, last);
+    Ok(Outcome { tasks, end })
 }
 
 // Plans the job of a file (01: the planner).
-pub fn plan(file: &[u8], starts: &mut [u32], processors: &mut [u8], scratch: &mut [u32]) -> Planned
-    ensures { called result starts.new processors.new scratch.new ≡
+pub fn plan(
+    file: &[u8],
+    starts: &mut [u32],
+    processors: &mut [u8],
+    scratch: &mut [u32],
+) -> Result<Outcome, Refusal>
+    ensures { called (as_planned result) starts.new processors.new scratch.new ≡
         plan_call file.now starts.old processors.old scratch.old }
 {
     plan_by(Ties::Number, file, starts, processors, scratch)
@@ -179,41 +162,31 @@ pub fn plan_by_weight(
     starts: &mut [u32],
     processors: &mut [u8],
     scratch: &mut [u32],
-) -> Planned
-    ensures { called result starts.new processors.new scratch.new ≡
+) -> Result<Outcome, Refusal>
+    ensures { called (as_planned result) starts.new processors.new scratch.new ≡
         weight_call file.now starts.old processors.old scratch.old }
 {
     plan_by(Ties::Weight, file, starts, processors, scratch)
 }
 
-// Lays the plan of an instance out in the slices, if there is room, with 512 places of scratch, which are 0 afterwards.
+// Lays the plan of an instance out in the slices, ties by number, with 512 places of scratch, which are 0 afterwards; its last finish, if
+// there is room.
 fn lay_small(
-    n: usize,
-    tasks: usize,
-    edges: usize,
-    durations: &[u32],
-    from: &[u8],
-    to: &[u8],
-    counts: &[u16],
-    costs: &[[u32; 16]; 16],
+    instance: &Instance,
     starts: &mut [u32],
     processors: &mut [u8],
     scratch: &mut [u32],
-) -> Laid
-    requires { Plannable (in_number_order n tasks edges durations.now from.now to.now counts.now costs.now) }
-    ensures { called result starts.new processors.new scratch.new ≡ lay_small
-        (instance_in (in_number_order n tasks edges durations.now from.now to.now counts.now
-        costs.now)) starts.old processors.old scratch.old }
+) -> Option<u32>
+    ensures { called (as_laid result) starts.new processors.new scratch.new ≡
+        lay_small (instance_in (in_arrays instance.now)) starts.old processors.old scratch.old }
 {
-    if too_short(tasks, starts.len(), processors.len(), scratch.len(), 512) {
-        return Laid::Short;
+    if too_short(instance.tasks, 512, starts, processors, scratch) {
+        return None;
     }
     base::clear(scratch, 512);
-    let last = small::run(
-        n, tasks, edges, durations, from, to, counts, costs, starts, processors, scratch,
-    );
+    let last = small::run(instance, starts, processors, scratch);
     base::clear(scratch, 512); // 02 §4: it "leaves those 512 at zero"
-    Laid::Last(last)
+    Some(last)
 }
 
 // Plans the job of a file with 512 places of scratch (02 §4). The job is read into arrays of its own, which are on the stack once.
@@ -222,87 +195,56 @@ pub fn plan_small(
     starts: &mut [u32],
     processors: &mut [u8],
     scratch: &mut [u32],
-) -> Planned
-    ensures { called result starts.new processors.new scratch.new ≡
+) -> Result<Outcome, Refusal>
+    ensures { called (as_planned result) starts.new processors.new scratch.new ≡
         small_call file.now starts.old processors.old scratch.old }
 {
-    let mut durations = [0u32; 256];
-    let mut from = [0u8; 1024];
-    let mut to = [0u8; 1024];
-    let mut counts = [0u16; 1024];
-    let mut wires = [0u8; 256];
-    let mut results = [0u16; 256];
-    let found = job::read_into(
-        file,
-        &mut durations,
-        &mut from,
-        &mut to,
-        &mut counts,
-        &mut wires,
-        &mut results,
-    );
-    let verdict = found.verdict;
-    let Verdict::Counts { tasks, edges } = verdict else {
-        return Planned::Refused(job::number(verdict));
+    let mut arrays = Arrays::zeros();
+    let found = job::read_into(file, &mut arrays);
+    let Verdict::Counts { tasks, edges } = found.verdict else {
+        return Err(found.verdict.refusal());
     };
-    let n = base::index(found.platform.processors);
-    let costs = costs::square(found.platform, &wires);
-    let laid = lay_small(
-        n, tasks, edges, &durations, &from, &to, &counts, &costs, starts, processors, scratch,
-    );
-    let Laid::Last(last) = laid else {
-        return Planned::Refused(9);
+    let costs = costs::square(found.platform, &arrays.wires);
+    let instance = Instance {
+        processors: usize::from(found.platform.processors),
+        tasks,
+        edges,
+        durations: &arrays.durations,
+        from: &arrays.from,
+        to: &arrays.to,
+        counts: &arrays.counts,
+        costs: &costs,
     };
-    let reported = delivery::end(tasks, last, &durations, &results, costs, starts, processors);
-    Planned::Plan(Outcome {
+    let Some(last) = lay_small(&instance, starts, processors, scratch) else {
+        return Err(Refusal::ShortSlice);
+    };
+    let plan = Schedule { starts, processors };
+    let reported = delivery::end(&instance, &arrays.results, &plan, last);
+    Ok(Outcome {
         tasks,
         end: reported,
     })
 }
 
-// Measures the planner's plan of an instance, which the slices hold, in whichever order its tasks went.
-fn measure<'a>(
-    n: usize,
-    tasks: usize,
-    edges: usize,
-    durations: &'a [u32],
-    from: &'a [u8],
-    to: &'a [u8],
-    counts: &'a [u16],
-    costs: [[u32; 16]; 16],
-    starts: &[u32],
-    processors: &[u8],
-) -> Figures
-    requires plannable { Plannable (in_number_order n tasks edges durations.now from.now to.now counts.now costs) }
-    requires by_index { (order : ℕ → ℕ) × HoldsIn (in_number_order n tasks edges durations.now from.now to.now counts.now costs)
-        starts.now processors.now order }
-    ensures { (order : ℕ → ℕ) → HoldsIn
-        (in_number_order n tasks edges durations.now from.now to.now counts.now costs)
-        starts.now processors.now order → result ≡ figures (instance_in (reordered order
-        (in_number_order n tasks edges durations.now from.now to.now counts.now costs))) }
+// Measures the planner's plan of an instance, in whichever order its tasks went.
+fn measure(instance: &Instance, plan: &Schedule) -> Figures
+    requires { (order : ℕ → ℕ) × HoldsIn (in_arrays instance.now) plan.now.starts.now plan.now.processors.now order }
+    ensures { (order : ℕ → ℕ) → HoldsIn (in_arrays instance.now) plan.now.starts.now plan.now.processors.now order
+        → result ≡ figures (instance_in (reordered order (in_arrays instance.now))) }
 {
-    let mut latest = [0u32; 256];
-    let mut idle = [0u32; 256];
-    walk::short_ticks(
-        n,
-        tasks,
-        edges,
-        durations,
-        to,
-        starts,
-        processors,
-        &mut latest,
-        &mut idle,
-    );
-    let cover = walk::cover(
-        n, tasks, edges, durations, from, to, counts, costs, starts, processors, &latest, &idle,
-    );
-    let most = chains::greatest_cost(costs, n);
-    let least = least::least(
-        n, tasks, edges, durations, from, to, counts, costs, most, starts, processors, &latest,
-        &idle,
-    );
-    let dearest = chains::dearest(n, tasks, edges, durations, from, to, counts, costs, most);
+    let table = Timetable {
+        instance: *instance,
+        plan: *plan,
+    };
+    let mut ticks = Ticks {
+        latest: [0; 256],
+        idle: [0; 256],
+    };
+    walk::short_ticks(&table, &mut ticks);
+    let cover = walk::cover(&table, &ticks);
+    let most = chains::greatest_cost(instance);
+    let least = least::least(&table, most, &ticks);
+    let dearest = chains::dearest(instance, most);
     Figures {
         cover,
         least,
@@ -317,51 +259,30 @@ fn cover_by(
     starts: &mut [u32],
     processors: &mut [u8],
     scratch: &mut [u32],
-) -> Covered
-    ensures { called result starts.new processors.new scratch.new ≡ cover_call_by (instance_by ties)
+) -> Result<Figures, Refusal>
+    ensures { called (as_covered result) starts.new processors.new scratch.new ≡ cover_call_by (instance_by ties)
         file.now starts.old processors.old scratch.old }
 {
     let r = job::read(file);
-    let verdict = r.verdict;
-    let Verdict::Counts { tasks, edges } = verdict else {
-        return Covered::Refused(job::number(verdict));
+    let Verdict::Counts { tasks, edges } = r.verdict else {
+        return Err(r.verdict.refusal());
     };
-    let n = base::index(r.platform.processors);
     let costs = costs::square(r.platform, &r.arrays.wires);
-    let laid = lay_out(
-        ties,
-        n,
-        tasks,
-        edges,
-        &r.arrays.durations,
-        &r.arrays.from,
-        &r.arrays.to,
-        &r.arrays.counts,
-        costs,
-        starts,
-        processors,
-        scratch,
-    );
-    let Laid::Last(_) = laid else {
-        return Covered::Refused(9);
+    let instance = instance_of(&r, tasks, edges, &costs);
+    let Some(_) = lay_out(&instance, ties, starts, processors, scratch) else {
+        return Err(Refusal::ShortSlice);
     };
-    Covered::Cover(measure(
-        n,
-        tasks,
-        edges,
-        &r.arrays.durations,
-        &r.arrays.from,
-        &r.arrays.to,
-        &r.arrays.counts,
-        costs,
-        starts,
-        processors,
-    ))
+    Ok(measure(&instance, &Schedule { starts, processors }))
 }
 
 // Plans the job of a file, and measures the plan (01: the cover call).
-pub fn cover(file: &[u8], starts: &mut [u32], processors: &mut [u8], scratch: &mut [u32]) -> Covered
-    ensures { called result starts.new processors.new scratch.new ≡
+pub fn cover(
+    file: &[u8],
+    starts: &mut [u32],
+    processors: &mut [u8],
+    scratch: &mut [u32],
+) -> Result<Figures, Refusal>
+    ensures { called (as_covered result) starts.new processors.new scratch.new ≡
         cover_call file.now starts.old processors.old scratch.old }
 {
     cover_by(Ties::Number, file, starts, processors, scratch)
@@ -373,96 +294,48 @@ pub fn cover_by_weight(
     starts: &mut [u32],
     processors: &mut [u8],
     scratch: &mut [u32],
-) -> Covered
-    ensures { called result starts.new processors.new scratch.new ≡
+) -> Result<Figures, Refusal>
+    ensures { called (as_covered result) starts.new processors.new scratch.new ≡
         weight_cover_call file.now starts.old processors.old scratch.old }
 {
     cover_by(Ties::Weight, file, starts, processors, scratch)
 }
 
-// What the checker says of a plan in two slices for an instance: 9 for a slice too short for its tasks, the plan's trouble, or a yes.
-fn say<'a>(
-    n: usize,
-    tasks: usize,
-    edges: usize,
-    durations: &'a [u32],
-    from: &'a [u8],
-    to: &'a [u8],
-    counts: &'a [u16],
-    costs: [[u32; 16]; 16],
-    starts: &[u32],
-    processors: &[u8],
-) -> Checked
-    requires { Plannable (in_number_order n tasks edges durations.now from.now to.now counts.now costs) }
-    ensures { result ≡ said
-        (instance_in (in_number_order n tasks edges durations.now from.now to.now counts.now costs))
-        tasks starts.now processors.now }
+// What the checker says of a plan of an instance: 9 for a slice too short for its tasks, the rule that it breaks, or a yes.
+fn say(instance: &Instance, plan: &Schedule) -> Result<(), Refusal>
+    ensures { as_checked result ≡
+        said (instance_in (in_arrays instance.now)) instance.now.tasks plan.now.starts.now plan.now.processors.now }
 {
-    if starts.len() < tasks {
-        return Checked::Refused(9);
+    if plan.starts.len() < instance.tasks || plan.processors.len() < instance.tasks {
+        return Err(Refusal::ShortSlice);
     }
-    if processors.len() < tasks {
-        return Checked::Refused(9);
-    }
-    let trouble = checker::trouble(
-        n, tasks, edges, durations, from, to, counts, costs, starts, processors,
-    );
-    if 0 < trouble {
-        return Checked::Refused(trouble);
-    }
-    Checked::Yes
+    checker::keeps_rules(instance, plan)
 }
 
 // Judges a plan for the job of a file (01: the checker).
-pub fn check(file: &[u8], starts: &[u32], processors: &[u8]) -> Checked
-    ensures { result ≡ check_call file.now starts.now processors.now }
+pub fn check(file: &[u8], starts: &[u32], processors: &[u8]) -> Result<(), Refusal>
+    ensures { as_checked result ≡ check_call file.now starts.now processors.now }
 {
     let r = job::read(file);
-    let verdict = r.verdict;
-    let Verdict::Counts { tasks, edges } = verdict else {
-        return Checked::Refused(job::number(verdict));
+    let Verdict::Counts { tasks, edges } = r.verdict else {
+        return Err(r.verdict.refusal());
     };
-    let n = base::index(r.platform.processors);
     let costs = costs::square(r.platform, &r.arrays.wires);
-    say(
-        n,
-        tasks,
-        edges,
-        &r.arrays.durations,
-        &r.arrays.from,
-        &r.arrays.to,
-        &r.arrays.counts,
-        costs,
-        starts,
-        processors,
-    )
+    let instance = instance_of(&r, tasks, edges, &costs);
+    say(&instance, &Schedule { starts, processors })
 }
 
 // Judges a plan for the job of a file, and hands on what was read: for a call that goes on with the job when the plan is accepted.
 pub fn judge(file: &[u8], starts: &[u32], processors: &[u8]) -> Judged
-    ensures { result ≡ judge_call file.now starts.now processors.now }
+    ensures { as_judgement result ≡ judge_call file.now starts.now processors.now }
 {
     let reading = job::read(file);
-    let verdict = reading.verdict;
-    let Verdict::Counts { tasks, edges } = verdict else {
-        return Judged {
-            reading,
-            checked: Checked::Refused(job::number(verdict)),
-        };
+    let Verdict::Counts { tasks, edges } = reading.verdict else {
+        let checked = Err(reading.verdict.refusal());
+        return Judged { reading, checked };
     };
-    let n = base::index(reading.platform.processors);
     let costs = costs::square(reading.platform, &reading.arrays.wires);
-    let checked = say(
-        n,
-        tasks,
-        edges,
-        &reading.arrays.durations,
-        &reading.arrays.from,
-        &reading.arrays.to,
-        &reading.arrays.counts,
-        costs,
-        starts,
-        processors,
-    );
+    let instance = instance_of(&reading, tasks, edges, &costs);
+    let checked = say(&instance, &Schedule { starts, processors });
     Judged { reading, checked }
 }

@@ -1,8 +1,8 @@
-// The messages of an edge, in a plan that two slices hold.
-ghost use Rattle.std.specs.Prelude.{◌≡◌, ◌+◌, ◌≤◌, ◌<◌, length, get_or};
-ghost use Rattle.job.specs.Limits.{most_duration};
-ghost use Rattle.etf.specs.Checker.{latest_start};
-ghost use Rattle.schedule.specs.Pass.{message_at, reach_at, Sender};
+// The messages of an edge, in the schedule of an instance.
+ghost use Rattle.std.specs.Prelude.{◌≡◌, ◌<◌, get_or};
+ghost use Rattle.schedule.specs.Pass.{finish_in, time_to, there_at};
+
+use crate::timetable::Timetable;
 
 // The task that they come from, its processor, how many they are, and when they are sent.
 #[derive(Clone, Copy)]
@@ -14,31 +14,20 @@ pub struct Sent {
 }
 
 // The messages of edge k, as they are sent.
-pub fn sent_along(
-    k: usize,
-    durations: &[u32],
-    from: &[u8],
-    counts: &[u16],
-    starts: &[u32],
-    processors: &[u8],
-) -> Sent
-    requires k_in_bounds { (k < length from.now) × (k < length counts.now) }
-    requires k_in_bounds_2 { (get_or from.now k 0 < length starts.now) × (get_or from.now k 0 < length durations.now)
-        × (get_or from.now k 0 < length processors.now) }
-    requires k_bound { get_or starts.now (get_or from.now k 0) 0 + get_or durations.now (get_or from.now k 0) 0
-        ≤ latest_start + most_duration }
-    ensures sender_value { result.sender ≡ get_or from.now k 0 }
-    ensures processor_value { result.processor ≡ get_or processors.now (get_or from.now k 0) 0 }
-    ensures count_value { result.count ≡ get_or counts.now k 0 }
-    ensures finish_value { result.finish ≡ get_or starts.now (get_or from.now k 0) 0
-        + get_or durations.now (get_or from.now k 0) 0 }
+pub fn sent_along(table: &Timetable, k: usize) -> Sent
+    requires { k < table.now.instance.edges }
+    ensures sender_value { result.sender ≡ get_or table.now.instance.from.now k 0 }
+    ensures processor_value { result.processor ≡ get_or table.now.plan.processors.now result.sender 0 }
+    ensures processor_there { result.processor < 16 }
+    ensures count_value { result.count ≡ get_or table.now.instance.counts.now k 0 }
+    ensures finish_value { result.finish ≡ finish_in table.now result.sender }
 {
-    let s = base::index(from[k]);
+    let sender = usize::from(table.instance.from[k]);
     Sent {
-        sender: s,
-        processor: base::index(processors[s]),
-        count: base::wide16(counts[k]),
-        finish: starts[s] + durations[s],
+        sender,
+        processor: table.processor(sender),
+        count: u32::from(table.instance.counts[k]),
+        finish: table.finish(sender),
     }
 }
 
@@ -51,27 +40,14 @@ pub struct Messages {
 }
 
 // The messages of edge k to processor q.
-pub fn of_edge(
-    k: usize,
-    q: usize,
-    durations: &[u32],
-    from: &[u8],
-    counts: &[u16],
-    costs: &[[u32; 16]; 16],
-    starts: &[u32],
-    processors: &[u8],
-) -> Messages
-    requires k_in_bounds { (k < length from.now) × (k < length counts.now) × (q < 16) }
-    requires sender { Sender durations.now from.now counts.now costs.now starts.now processors.now q k }
-    ensures sender_value { result.sender ≡ get_or from.now k 0 }
-    ensures time_value { result.time ≡ message_at durations.now from.now counts.now costs.now
-        starts.now processors.now q k }
-    ensures arrival_value { result.arrival ≡ reach_at durations.now from.now counts.now costs.now
-        starts.now processors.now q k }
+pub fn of_edge(table: &Timetable, k: usize, q: usize) -> Messages
+    requires { (k < table.now.instance.edges) × (q < 16) }
+    ensures sender_value { result.sender ≡ get_or table.now.instance.from.now k 0 }
+    ensures time_value { result.time ≡ time_to table.now q k }
+    ensures arrival_value { result.arrival ≡ there_at table.now q k }
 {
-    let sent = sent_along(k, durations, from, counts, starts, processors);
-    let p = sent.processor;
-    let time = sent.count * costs[p][q];
+    let sent = sent_along(table, k);
+    let time = sent.count * table.instance.costs[sent.processor][q];
     Messages {
         sender: sent.sender,
         time,

@@ -1,12 +1,16 @@
 // The planning rule (document 01, "The planning rule").
-ghost use Rattle.std.specs.Prelude.{◌≡◌, ℕ, ◌+◌, ◌*◌, ◌-◌, ◌≤◌, ◌<◌, [], length, get_or, set};
+ghost use Rattle.std.specs.Prelude.{◌≡◌, ℕ, ◌+◌, ◌*◌, ◌-◌, ◌≤◌, ◌<◌, [], T as Holds, length, get_or, set};
 ghost use Rattle.etf.specs.Bounds.{most_message_time, most_finish};
-ghost use Rattle.schedule.specs.InArrays.{in_given_order, instance_in, Plannable};
+ghost use Rattle.schedule.specs.InArrays.{reordered, instance_in, Ordering};
+ghost use Rattle.schedule.specs.Handed.{in_arrays};
 ghost use Rattle.schedule.specs.Call.{called};
 ghost use Rattle.schedule.specs.Pass.{Surveyed, Raised, ToSend, Sent, OrderIn, Skipped, Looked, ToPlace, Placed, placed_mark, Room};
-ghost use Rattle.schedule.specs.Pass.{inbox, tables, first_best, row_of, row_by, no_pair, searched, run_call};
+ghost use Rattle.schedule.specs.Pass.{inbox, tables, first_best, row_by, table_arrival, no_pair, can_start, searched, run_call};
 
-// A task, a processor and the start that the task would have there; 4294967295 where there is none.
+use crate::instance::Instance;
+
+// A task, a processor and the start that the task would have there; `u32::MAX` where there is none. No start is so late, so
+// a search compares starts alone.
 #[derive(Clone, Copy)]
 pub struct Pair {
     pub start: u32,
@@ -14,7 +18,7 @@ pub struct Pair {
     pub processor: usize,
 }
 
-// The next moment (01: NM), 4294967295 where it is endless, and the number of free processors.
+// The next moment (01: NM), `u32::MAX` where it is endless, and the number of free processors.
 #[derive(Clone, Copy)]
 pub struct Moment {
     pub next: u32,
@@ -28,165 +32,205 @@ pub struct Choice {
     pub pair: Pair,
 }
 
-// A task that is done: when, and its edges, `first` to before `last`.
+// A pair whose task is done: when, and the task's edges, `first` to before `last`.
 #[derive(Clone, Copy)]
 pub struct Done {
+    pub pair: Pair,
     pub finish: u32,
     pub first: usize,
     pub last: usize,
 }
 
+// How far a plan has come: the clock, the first place of the order whose task is not placed, until when each processor is busy, and for
+// how many predecessors each task waits; `u16::MAX` in place of a count marks a placed task.
+#[derive(Drop)]
+pub struct Progress {
+    pub clock: u32,
+    pub low: usize,
+    pub busy: [u32; 16],
+    pub waiting: [u16; 256],
+}
+
+// Which task is at each place of the priority order.
+pub trait Order {
+    // the task at a place
+    ghost at: { Self → ℕ → ℕ };
+
+    // a place has a task
+    ghost Has: { Self → ℕ → Type 0 };
+
+    fn task_at(&self, place: usize) -> usize
+        requires { Has self.now place }
+        ensures value { result ≡ at self.now place }
+        ensures below { result < 256 };
+}
+
+// The tasks in the order of an array.
+#[derive(Clone, Copy)]
+pub struct ByArray<'a> {
+    pub tasks: &'a [usize],
+}
+
+impl<'a> Order for ByArray<'a> {
+    ghost at = { λ x i. get_or x.tasks.now i 0 };
+
+    ghost Has = { λ x i. (i < length x.tasks.now) × (get_or x.tasks.now i 0 < 256) };
+
+    fn task_at(&self, place: usize) -> usize {
+        self.tasks[place]
+    }
+}
+
+// When what a task waits for is at each processor.
+pub trait Arrivals {
+    // the arrival of a task at a processor
+    ghost arrival: { Self → ℕ → ℕ → ℕ };
+
+    // a task can be tried
+    ghost MayTry: { Self → ℕ → Type 0 };
+
+    // on the processors below this one
+    ghost processors: { Self → ℕ };
+
+    // Tries a task on each free processor, with the best pair so far.
+    fn try_task(&self, task: usize, clock: u32, free: &[usize], leader: Pair) -> Pair
+        requires may_try { (MayTry self.now task) × (clock < leader.start) }
+        requires free_in_bounds { (i : ℕ) → i < length free.now → get_or free.now i 0 < processors self.now }
+        ensures { result ≡ first_best leader (row_by clock (arrival self.now task) free.now (length free.now) task) };
+}
+
 // Looks over the processors at the clock: the free ones go to `free`.
-pub fn survey(busy: &[u32], n: usize, clock: u32, free: &mut [usize]) -> Moment
-    requires { (n ≤ 16) × (length busy.now ≡ 16) × (length free.old ≡ 16) }
+pub fn survey(busy: &[u32; 16], n: usize, clock: u32, free: &mut [usize; 16]) -> Moment
+    requires { n ≤ 16 }
     ensures { Surveyed busy.now n clock free.new result }
 {
-    let mut next: u32 = 4294967295;
+    let mut next: u32 = u32::MAX;
     let mut count: usize = 0;
-    let mut p: usize = 0;
-    while p < n {
+    for p in 0..n {
         let finish = busy[p];
         if finish <= clock {
             free[count] = p;
             count += 1;
         } else {
-            if finish < next {
-                next = finish;
-            }
+            next = next.min(finish);
         }
-        p += 1;
     }
     Moment { next, free: count }
 }
 
 // Tries a task on each free processor, by the row of its arrivals. Nothing beats a pair that can start at the clock.
-pub fn try_row(
-    task: usize,
-    clock: u32,
-    row: &[u32],
-    free: &[usize],
-    count: usize,
-    leader: Pair,
-) -> Pair
-    requires in_bounds { (16 ≤ length row.now) × (count ≤ length free.now) }
-    requires by_index { ((i : ℕ) → i < count → get_or free.now i 0 < 16) × (clock < leader.start) }
-    ensures { result ≡ first_best leader (row_by clock (λ P. get_or row.now P 0) free.now count task) }
+pub fn try_row(task: usize, clock: u32, row: &[u32], free: &[usize], leader: Pair) -> Pair
+    requires in_bounds { 16 ≤ length row.now }
+    requires by_index { ((i : ℕ) → i < length free.now → get_or free.now i 0 < 16) × (clock < leader.start) }
+    ensures { result ≡ first_best leader (row_by clock (λ P. get_or row.now P 0) free.now (length free.now) task) }
 {
     let mut best = leader;
-    let mut i: usize = 0;
-    while i < count {
-        let p = free[i];
-        let arrival = row[p];
+    for p in free {
+        let arrival = row[*p];
         if arrival <= clock {
             return Pair {
                 start: clock,
                 task,
-                processor: p,
+                processor: *p,
             };
         }
         if arrival < best.start {
             best = Pair {
                 start: arrival,
                 task,
-                processor: p,
+                processor: *p,
             };
         }
-        i += 1;
     }
     best
 }
 
-// Tries a task on each free processor, by its row of the arrivals.
-fn try_task(
-    task: usize,
-    clock: u32,
-    arrivals: &[u32],
-    free: &[usize],
-    count: usize,
-    leader: Pair,
-) -> Pair
-    requires task_bound { (task < 256) × (4096 ≤ length arrivals.now) × (count ≤ length free.now) }
-    requires by_index { ((i : ℕ) → i < count → get_or free.now i 0 < 16) × (clock < leader.start) }
-    ensures { result ≡ first_best leader (row_of clock arrivals.now free.now count task) }
-{
-    let first = 16 * task;
-    try_row(task, clock, &arrivals[first..], free, count, leader)
+// A table of arrivals: those of task T stand from place 16T on.
+#[derive(Clone, Copy)]
+pub struct Table<'a> {
+    pub arrivals: &'a [u32],
+}
+
+impl<'a> Arrivals for Table<'a> {
+    ghost arrival = { λ x. table_arrival x.arrivals.now };
+
+    ghost MayTry = { λ x T. (T < 256) × (4096 ≤ length x.arrivals.now) };
+
+    ghost processors = { λ _. 16 };
+
+    fn try_task(&self, task: usize, clock: u32, free: &[usize], leader: Pair) -> Pair {
+        let arrivals = self.arrivals;
+        let first = 16 * task;
+        try_row(task, clock, &arrivals[first..], free, leader)
+    }
 }
 
 // The first pair of smallest start among the ready tasks from place `low` of the order on and the free processors.
-fn choose(
-    clock: u32,
-    low: usize,
+fn choose<O: Order, A: Arrivals>(
     tasks: usize,
-    order: &[usize],
-    waiting: &[u16],
+    order: &O,
+    progress: &Progress,
     latest: &[u32],
-    arrivals: &[u32],
+    arrivals: &A,
     free: &[usize],
-    count: usize,
 ) -> Pair
-    requires clock_bound { (clock < 4294967295) × (low ≤ tasks) × (tasks ≤ 256) }
-    requires waiting_len { (length waiting.now ≡ 256) × (length latest.now ≡ 256) × (4096 ≤ length arrivals.now) }
-    requires count_in_bounds { (count ≤ length free.now) × ((i : ℕ) → i < count → get_or free.now i 0 < 16) }
-    requires order_in { OrderIn tasks order.now }
-    ensures { result ≡ searched clock waiting.now latest.now (λ i. get_or order.now i 0)
-        (row_of clock arrivals.now free.now count) low (tasks - low) no_pair }
+    requires clock_bound { (progress.now.clock < 4294967295) × (progress.now.low ≤ tasks) × (256 ≤ length latest.now) }
+    requires in_order { (i : ℕ) → i < tasks → O.Has order.now i }
+    requires may_try { (i : ℕ) → i < tasks → Holds (can_start progress.now.clock progress.now.waiting latest.now (O.at order.now i)) →
+        A.MayTry arrivals.now (O.at order.now i) }
+    requires free_in_bounds { (i : ℕ) → i < length free.now → get_or free.now i 0 < A.processors arrivals.now }
+    ensures { result ≡ searched progress.now.clock progress.now.waiting latest.now (O.at order.now)
+        (λ T. row_by progress.now.clock (A.arrival arrivals.now T) free.now (length free.now) T)
+        progress.now.low (tasks - progress.now.low) no_pair }
 {
+    let clock = progress.clock;
     let mut best = Pair {
-        start: 4294967295,
+        start: u32::MAX,
         task: 0,
         processor: 0,
     };
-    if count == 0 {
+    if free.is_empty() {
         return best;
     }
-    let mut i = low;
-    while i < tasks {
-        let t = order[i];
-        if waiting[t] == 0 {
-            if latest[t] <= clock {
-                best = try_task(t, clock, arrivals, free, count, best);
-                if best.start <= clock {
-                    return best;
-                }
+    for i in progress.low..tasks {
+        let t = order.task_at(i);
+        if progress.waiting[t] == 0 && latest[t] <= clock {
+            best = arrivals.try_task(t, clock, free, best);
+            if best.start <= clock {
+                return best;
             }
         }
-        i += 1;
     }
     best
 }
 
 // Looks over processors and tasks at the clock. The free processors go to `free`, which is lent, so that no round clears an array of its
 // own.
-fn look(
-    clock: u32,
-    low: usize,
-    tasks: usize,
-    n: usize,
-    order: &[usize],
-    busy: &[u32],
-    waiting: &[u16],
+pub fn look<O: Order, A: Arrivals>(
+    instance: &Instance,
+    order: &O,
+    progress: &Progress,
     latest: &[u32],
-    arrivals: &[u32],
-    free: &mut [usize],
+    arrivals: &A,
+    free: &mut [usize; 16],
 ) -> Choice
-    requires n_bound { (n ≤ 16) × (clock < 4294967295) × (low ≤ tasks) × (tasks ≤ 256) }
-    requires busy_len { (length busy.now ≡ 16) × (length waiting.now ≡ 256) × (length latest.now ≡ 256) × (4096 ≤ length arrivals.now) }
-    requires order_in { OrderIn tasks order.now × (length free.old ≡ 16) }
-    ensures { Looked clock low tasks n (λ i. get_or order.now i 0)
-        (inbox arrivals.now waiting.now latest.now) busy.now result }
+    requires clock_bound { (progress.now.clock < 4294967295) × (progress.now.low ≤ instance.now.tasks) × (256 ≤ length latest.now) }
+    requires in_order { (i : ℕ) → i < instance.now.tasks → O.Has order.now i }
+    requires may_try { (i : ℕ) → i < instance.now.tasks
+        → Holds (can_start progress.now.clock progress.now.waiting latest.now (O.at order.now i))
+        → A.MayTry arrivals.now (O.at order.now i) }
+    requires processors_in_bounds { instance.now.processors ≤ A.processors arrivals.now }
+    ensures { Looked progress.now.clock progress.now.low instance.now.tasks instance.now.processors
+        (O.at order.now) (A.arrival arrivals.now) progress.now.waiting latest.now progress.now.busy result }
 {
-    let moment = survey(busy, n, clock, free);
+    let moment = survey(&progress.busy, instance.processors, progress.clock, free);
     let pair = choose(
-        clock,
-        low,
-        tasks,
+        instance.tasks,
         order,
-        waiting,
+        progress,
         latest,
         arrivals,
-        free,
-        moment.free,
+        &free[..moment.free],
     );
     Choice {
         next: moment.next,
@@ -196,213 +240,186 @@ fn look(
 
 // Raises the arrivals of a task by what one predecessor sends to it. Each is stored, raised or not: with no store that hangs on a test the
 // processors go four at a time, wherever the arrivals stand.
-pub fn raise(arrivals: &mut [u32], task: usize, n: usize, finish: u32, count: u32, row: &[u32])
-    requires task_bound { (task < 256) × (n ≤ 16) × (16 * task + n ≤ length arrivals.old) × (length row.now ≡ 16) }
+pub fn raise(arrivals: &mut [u32], task: usize, n: usize, finish: u32, count: u32, row: &[u32; 16])
+    requires task_bound { (task < 256) × (n ≤ 16) × (16 * task + n ≤ length arrivals.old) }
     requires finish_le_most_finish { (finish ≤ most_finish) × ((P : ℕ) → count * get_or row.now P 0 ≤ most_message_time) }
     ensures { Raised n task finish count row.now arrivals.old arrivals.new }
 {
-    let mut p: usize = 0;
-    while p < n {
+    for p in 0..n {
         let arrival = finish + count * row[p];
         let at = 16 * task + p;
-        let before = arrivals[at];
-        arrivals[at] = if before < arrival { arrival } else { before };
-        p += 1;
+        arrivals[at] = arrivals[at].max(arrival);
     }
 }
 
-// A task that finishes at `finish` sends along its edges, `first` to before `last`; `row` has the costs from its processor.
+// A task that is done sends along its edges; `row` has the costs from its processor.
 fn send(
-    first: usize,
-    last: usize,
-    finish: u32,
-    n: usize,
-    row: &[u32],
-    to: &[u8],
-    counts: &[u16],
+    instance: &Instance,
+    done: Done,
+    row: &[u32; 16],
     arrivals: &mut [u32],
-    waiting: &mut [u16],
-    latest: &mut [u32],
+    waiting: &mut [u16; 256],
+    latest: &mut [u32; 256],
 )
-    requires { ToSend first last finish n row.now to.now counts.now (inbox arrivals.old waiting.old latest.old) }
-    ensures { Sent first last finish n row.now to.now counts.now
+    requires { ToSend done.first done.last done.finish instance.now.processors row.now instance.now.to.now instance.now.counts.now
+        (inbox arrivals.old waiting.old latest.old) }
+    ensures { Sent done.first done.last done.finish instance.now.processors row.now instance.now.to.now instance.now.counts.now
         (inbox arrivals.old waiting.old latest.old)
         (inbox arrivals.new waiting.new latest.new) }
 {
-    let mut k = first;
-    while k < last {
-        let t = base::index(to[k]);
-        raise(arrivals, t, n, finish, base::wide16(counts[k]), row);
-        if latest[t] < finish {
-            latest[t] = finish;
-        }
-        waiting[t] = waiting[t] - 1;
-        k += 1;
+    for k in done.first..done.last {
+        let t = usize::from(instance.to[k]);
+        let count = u32::from(instance.counts[k]);
+        raise(arrivals, t, instance.processors, done.finish, count, row);
+        latest[t] = latest[t].max(done.finish);
+        waiting[t] -= 1;
     }
 }
 
-// The first place of the order from `low` on whose task is not placed; 65535 in place of a waiting count marks a placed one.
-fn skip(order: &[usize], waiting: &[u16], low: usize, tasks: usize) -> usize
-    requires { (low ≤ tasks) × (length waiting.now ≡ 256) × OrderIn tasks order.now }
-    ensures { Skipped waiting.now (λ i. get_or order.now i 0) low tasks result }
+// The first place of the order from `low` on whose task is not placed.
+pub fn skip<O: Order>(order: &O, waiting: &[u16; 256], low: usize, tasks: usize) -> usize
+    requires low_bound { low ≤ tasks }
+    requires in_order { (i : ℕ) → i < tasks → O.Has order.now i }
+    ensures { Skipped waiting.now (O.at order.now) low tasks result }
 {
-    let mut i = low;
-    while i < tasks {
-        let t = order[i];
-        if waiting[t] != 65535 {
+    for i in low..tasks {
+        let t = order.task_at(i);
+        if waiting[t] != u16::MAX {
             return i;
         }
-        i += 1;
     }
     tasks
 }
 
 // Writes down a placement.
-pub fn put(
-    task: usize,
-    processor: usize,
-    start: u32,
-    finish: u32,
-    starts: &mut [u32],
-    processors: &mut [u8],
-    busy: &mut [u32],
-    waiting: &mut [u16],
-)
-    requires task_in_bounds { (task < length starts.old) × (task < length processors.old) × (task < length waiting.old) }
-    requires processor_in_bounds { (processor < length busy.old) × (processor < 16) }
-    ensures starts_after { starts.new ≡ set starts.old task start }
-    ensures processors_after { processors.new ≡ set processors.old task processor }
-    ensures busy_after { busy.new ≡ set busy.old processor finish }
-    ensures waiting_after { waiting.new ≡ set waiting.old task placed_mark }
+pub fn put(done: Done, starts: &mut [u32], processors: &mut [u8], progress: &mut Progress)
+    requires task_in_bounds { (done.pair.task < length starts.old) × (done.pair.task < length processors.old) × (done.pair.task < 256) }
+    requires processor_in_bounds { done.pair.processor < 16 }
+    ensures starts_after { starts.new ≡ set starts.old done.pair.task done.pair.start }
+    ensures processors_after { processors.new ≡ set processors.old done.pair.task done.pair.processor }
+    ensures progress_after { progress.new ≡ record progress.old {
+      busy = set progress.old.busy done.pair.processor done.finish;
+      waiting = set progress.old.waiting done.pair.task placed_mark;
+    } }
 {
-    starts[task] = start;
-    processors[task] = processor as u8;
-    busy[processor] = finish;
-    waiting[task] = 65535;
+    let pair = done.pair;
+    starts[pair.task] = pair.start;
+    processors[pair.task] = pair.processor as u8;
+    progress.busy[pair.processor] = done.finish;
+    progress.waiting[pair.task] = u16::MAX;
 }
 
 // When the task of a pair is done, and its edges; `runs` has where those of each task begin.
-pub fn finish(pair: Pair, durations: &[u32], runs: &[u16]) -> Done
-    requires task_in_bounds { (pair.task < length durations.now) × (pair.task < 256) × (length runs.now ≡ 257) }
-    requires task_bound { pair.start + get_or durations.now pair.task 0 ≤ most_finish }
+pub fn finish(pair: Pair, durations: &[u32; 256], runs: &[u16; 257]) -> Done
+    requires task_in_bounds { pair.task < 256 }
+    requires in_time { pair.start + get_or durations.now pair.task 0 ≤ most_finish }
+    ensures pair_value { result.pair ≡ pair }
     ensures finish_value { result.finish ≡ pair.start + get_or durations.now pair.task 0 }
     ensures first_value { result.first ≡ get_or runs.now pair.task 0 }
     ensures last_value { result.last ≡ get_or runs.now (pair.task + 1) 0 }
 {
     let t = pair.task;
-    let after = t + 1;
     Done {
+        pair,
         finish: pair.start + durations[t],
-        first: base::index16(runs[t]),
-        last: base::index16(runs[after]),
+        first: usize::from(runs[t]),
+        last: usize::from(runs[t + 1]),
     }
 }
 
-// Places a task that finishes at `finish` and sends along its edges; returns the first place of the order that is left.
+// Places a task that is done as `done` says, and sends along its edges.
 fn place(
-    pair: Pair,
-    finish: u32,
-    first: usize,
-    last: usize,
-    low: usize,
-    tasks: usize,
-    n: usize,
-    order: &[usize],
-    costs: &[[u32; 16]; 16],
-    to: &[u8],
-    counts: &[u16],
+    instance: &Instance,
+    order: &ByArray,
+    done: Done,
     starts: &mut [u32],
     processors: &mut [u8],
     arrivals: &mut [u32],
-    waiting: &mut [u16],
-    latest: &mut [u32],
-    busy: &mut [u32],
-) -> usize
-    requires to_place { ToPlace pair finish first last low tasks n (get_or costs.now pair.processor []) to.now counts.now
-        (tables starts.old processors.old busy.old (inbox arrivals.old waiting.old latest.old)) }
-    requires order_in { OrderIn tasks order.now }
-    ensures { Placed pair finish first last low tasks n (λ i. get_or order.now i 0)
-        (get_or costs.now pair.processor []) to.now counts.now
-        (tables starts.old processors.old busy.old
-        (inbox arrivals.old waiting.old latest.old))
-        (tables starts.new processors.new busy.new
-        (inbox arrivals.new waiting.new latest.new)) result }
+    latest: &mut [u32; 256],
+    progress: &mut Progress,
+)
+    requires to_place { ToPlace done.pair done.finish done.first done.last progress.old.low instance.now.tasks instance.now.processors
+        (get_or instance.now.costs.now done.pair.processor []) instance.now.to.now instance.now.counts.now
+        (tables starts.old processors.old progress.old.busy (inbox arrivals.old progress.old.waiting latest.old)) }
+    requires order_in { OrderIn instance.now.tasks order.now.tasks.now }
+    ensures clock_after { progress.new.clock ≡ progress.old.clock }
+    ensures waiting_size { length progress.new.waiting ≡ 256 }
+    ensures placed { Placed done.pair done.finish done.first done.last progress.old.low instance.now.tasks instance.now.processors
+        (λ i. get_or order.now.tasks.now i 0)
+        (get_or instance.now.costs.now done.pair.processor []) instance.now.to.now instance.now.counts.now
+        (tables starts.old processors.old progress.old.busy
+        (inbox arrivals.old progress.old.waiting latest.old))
+        (tables starts.new processors.new progress.new.busy
+        (inbox arrivals.new progress.new.waiting latest.new)) progress.new.low }
 {
-    let t = pair.task;
-    let p = pair.processor;
-    let row = costs[p];
-    put(t, p, pair.start, finish, starts, processors, busy, waiting);
+    put(done, starts, processors, progress);
+    let row = instance.costs[done.pair.processor];
     send(
-        first, last, finish, n, &row, to, counts, arrivals, waiting, latest,
+        instance,
+        done,
+        &row,
+        arrivals,
+        &mut progress.waiting,
+        latest,
     );
-    skip(order, waiting, low, tasks)
+    progress.low = skip(order, &progress.waiting, progress.low, instance.tasks);
 }
 
 // Plans an instance, its tasks in the order that is handed in, and returns the last finish. The arrivals begin with 4,096 zeros.
-pub fn run<'a>(
-    n: usize,
-    tasks: usize,
-    edges: usize,
-    order: &'a [usize],
-    durations: &'a [u32],
-    from: &'a [u8],
-    to: &'a [u8],
-    counts: &'a [u16],
-    costs: [[u32; 16]; 16],
+pub fn run(
+    instance: &Instance,
+    order: &[usize],
     starts: &mut [u32],
     processors: &mut [u8],
     arrivals: &mut [u32],
 ) -> u32
-    requires plannable { Plannable (in_given_order order.now n tasks edges durations.now from.now to.now counts.now costs) }
-    requires tasks_in_bounds { (tasks ≤ length order.now) × Room tasks starts.old processors.old arrivals.old }
-    ensures { called result starts.new processors.new arrivals.new ≡ run_call (instance_in (in_given_order
-        order.now n tasks edges durations.now from.now to.now counts.now costs))
+    requires ordered { Ordering instance.now.tasks (λ i. get_or order.now i 0) }
+    requires tasks_in_bounds { (instance.now.tasks ≤ length order.now)
+        × Room instance.now.tasks starts.old processors.old arrivals.old }
+    ensures { called result starts.new processors.new arrivals.new ≡ run_call (instance_in (reordered
+        (λ i. get_or order.now i 0) (in_arrays instance.now)))
         starts.old processors.old arrivals.old }
 {
-    let runs = graph::runs(from, edges);
-    let mut waiting = graph::counts(to, edges);
+    let from = instance.from;
+    let to = instance.to;
+    let runs = graph::runs(from, instance.edges);
+    let mut progress = Progress {
+        clock: 0,
+        low: 0,
+        busy: [0; 16],
+        waiting: graph::counts(to, instance.edges),
+    };
+    let by = ByArray { tasks: order };
     let mut latest = [0u32; 256];
-    let mut busy = [0u32; 16];
     let mut free = [0usize; 16];
-    let mut clock: u32 = 0;
     let mut end: u32 = 0;
-    let mut low: usize = 0;
-    // The proof counts the rounds: 2m - 1 are enough, so the loop ends.
-    let mut rounds: usize = 0;
-    while low < tasks {
+    while progress.low < instance.tasks {
         let choice = look(
-            clock, low, tasks, n, order, &busy, &waiting, &latest, arrivals, &mut free,
+            instance,
+            &by,
+            &progress,
+            &latest,
+            &Table { arrivals },
+            &mut free,
         );
         let pair = choice.pair;
         let next = choice.next;
         if pair.start <= next {
-            let done = finish(pair, durations, &runs);
-            low = place(
-                pair,
-                done.finish,
-                done.first,
-                done.last,
-                low,
-                tasks,
-                n,
-                order,
-                &costs,
-                to,
-                counts,
+            let done = finish(pair, instance.durations, &runs);
+            place(
+                instance,
+                &by,
+                done,
                 starts,
                 processors,
                 arrivals,
-                &mut waiting,
                 &mut latest,
-                &mut busy,
+                &mut progress,
             );
-            if end < done.finish {
-                end = done.finish;
-            }
+            end = end.max(done.finish);
         } else {
-            clock = next;
+            progress.clock = next;
         }
-        rounds += 1;
     }
     end
 }

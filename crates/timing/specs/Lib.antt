@@ -1,2 +1,1 @@
 pub mod Timing
-pub mod Laws

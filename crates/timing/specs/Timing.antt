@@ -5,21 +5,17 @@ use Rattle.base.specs.Choice.{pick}
 use Rattle.job.specs.declared.Reading.{Reading}
 use Rattle.job.specs.declared.Verdict.{Verdict}
 use Rattle.job.specs.declared.Verdict.TheVariants.{Counts, Refused as NotRead}
-use Rattle.job.specs.declared.Written.{Written}
-use Rattle.job.specs.declared.Written.TheVariants.{Length, Refused as NotWritten}
 use Rattle.job.specs.Limits.{most_processors, most_tasks, most_edges}
 use Rattle.job.specs.Job.{Job}
 use Rattle.job.specs.Read.{Answer, accepted, refused, read_job, verdict_number}
-use Rattle.job.specs.Write.{held_job, write_answer, write_out}
+use Rattle.job.specs.Table.{number_of}
+use Rattle.job.specs.Write.{Written, Length, Refused as NotWritten, held_job, write_answer, write_out}
 use Rattle.etf.specs.Topology.{entry, cost, square}
 use Rattle.costs.specs.Wires.{loaded}
-use Rattle.schedule.specs.declared.Covered.{Covered}
-use Rattle.schedule.specs.declared.Covered.TheVariants.{Cover, Refused as NotCovered}
-use Rattle.schedule.specs.declared.Planned.{Planned}
-use Rattle.schedule.specs.declared.Planned.TheVariants.{Plan, Refused as NotPlanned}
+use Rattle.schedule.specs.Answers.Covered.{Covered, Cover, Refused as NotCovered}
+use Rattle.schedule.specs.Answers.Planned.{Planned, Plan, Refused as NotPlanned}
 use Rattle.schedule.specs.Call.{Call, called}
-use Rattle.gantt.specs.declared.Drawn.{Drawn}
-use Rattle.gantt.specs.declared.Drawn.TheVariants.{Length as PageLength, Refused as NotDrawn}
+use Rattle.gantt.specs.Answer.{Drawn, Length as PageLength, Refused as NotDrawn}
 use Rattle.gantt.specs.Draw.{DrawCall, draw_call}
 
 -- 0 for a job that was written, or the refusal's number
@@ -64,12 +60,12 @@ job_held_in r m l = held_job r.platform m l r.arrays
 -- what the writer answers for what was read
 unfoldable pub copy_answer : Verdict → Reading → List ℕ → Written
 copy_answer (Counts m l) r out = write_answer m l (job_held_in r m l) out
-copy_answer (NotRead k) r out = NotWritten k
+copy_answer (NotRead e) r out = NotWritten (number_of e)
 
 -- the output afterwards
 unfoldable pub copy_out : Verdict → Reading → List ℕ → List ℕ
 copy_out (Counts m l) r out = write_out (write_answer m l (job_held_in r m l) out) (job_held_in r m l) out
-copy_out (NotRead k) r out = out
+copy_out (NotRead e) r out = out
 
 -- what a copy of the file that reads as r returns and leaves
 pub record Copied (number : ℕ) (after : List ℕ) (r : Reading) (before : List ℕ) : Type 0 where

@@ -2,109 +2,65 @@
 // (bench/) and the differential (tests/differential) call from C.
 #![tactic(auto)]
 
-ghost use Rattle.std.specs.Prelude.{◌≡◌, ◌<◌, ◌≤◌, length, get_or};
+ghost use Rattle.std.specs.Prelude.{◌≡◌, ◌≤◌, length};
 ghost use Rattle.job.specs.Read.{read_job, reading_of};
 ghost use Rattle.schedule.specs.Call.{called};
 ghost use Rattle.schedule.specs.Cover.{cover_call, weight_cover_call};
 ghost use Rattle.schedule.specs.Plan.{weight_call};
 ghost use Rattle.schedule.specs.Small.{small_call};
-ghost use Rattle.timing.specs.Timing.{written_number, number_at, Copied, refusal_in, numbers_in, or_nine, cover_returned, cover_timed};
-ghost use Rattle.timing.specs.Timing.{square_timed, drawn_number, draw_returned, draw_timed, planned_number, plan_timed};
+ghost use Rattle.schedule.specs.Answers.Covered.{as_covered};
+ghost use Rattle.timing.specs.Timing.{number_at, Copied, refusal_in, numbers_in, or_nine, cover_returned, cover_timed};
+ghost use Rattle.timing.specs.Timing.{square_timed, draw_returned, draw_timed, plan_timed};
 
-use gantt::Drawn;
-use job::{Platform, Verdict, Written};
-use schedule::{Covered, Planned};
-
-// 0 for a job that was written, or the refusal's number.
-fn written_number(written: Written) -> u32
-    ensures { result ≡ written_number written }
-{
-    match written {
-        Written::Length(_) => 0,
-        Written::Refused(number) => base::wide8(number),
-    }
-}
-
-// The duration at a place.
-fn duration(durations: &[u32; 256], place: usize) -> u32
-    requires { place < 256 }
-    ensures { result ≡ get_or durations.now place 0 }
-{
-    durations[place]
-}
-
-// The end of an edge at a place.
-fn task(tasks: &[u8; 1024], place: usize) -> u32
-    requires { place < 1024 }
-    ensures { result ≡ get_or tasks.now place 0 }
-{
-    base::wide8(tasks[place])
-}
-
-// The message count at a place.
-fn count(counts: &[u16; 1024], place: usize) -> u32
-    requires { place < 1024 }
-    ensures { result ≡ get_or counts.now place 0 }
-{
-    base::wide16(counts[place])
-}
-
-// The cost of the wire at a place.
-fn cost(wires: &[u8; 256], place: usize) -> u32
-    requires { place < 256 }
-    ensures { result ≡ get_or wires.now place 0 }
-{
-    base::wide8(wires[place])
-}
-
-// The message count of the result of the task at a place.
-fn delivery(results: &[u16; 256], place: usize) -> u32
-    requires { place < 256 }
-    ensures { result ≡ get_or results.now place 0 }
-{
-    base::wide16(results[place])
-}
+use job::{HeldJob, Platform, Refusal, Verdict};
+use kelvrist::answer_number;
+use schedule::Figures;
 
 // Reads a file, and returns one number of what was read: which one is not known before, so that every store is due.
+#[tactic(auto, unfolding(crate::specs::Timing::number_at))]
 #[unsafe(no_mangle)]
 pub extern "C" fn timing_read(file: &[u8], place: usize) -> u32
     ensures { result ≡ number_at (reading_of (read_job file.now)) place }
 {
     let r = job::read(file);
     if place < 256 {
-        return duration(&r.arrays.durations, place);
+        return r.arrays.durations[place];
     }
     if place < 1280 {
-        return task(&r.arrays.from, place - 256);
+        return u32::from(r.arrays.from[place - 256]);
     }
     if place < 2304 {
-        return task(&r.arrays.to, place - 1280);
+        return u32::from(r.arrays.to[place - 1280]);
     }
     if place < 3328 {
-        return count(&r.arrays.counts, place - 2304);
+        return u32::from(r.arrays.counts[place - 2304]);
     }
     if place < 3584 {
-        return cost(&r.arrays.wires, place - 3328);
+        return u32::from(r.arrays.wires[place - 3328]);
     }
     if place < 3840 {
-        return delivery(&r.arrays.results, place - 3584);
+        return u32::from(r.arrays.results[place - 3584]);
     }
-    let verdict = r.verdict;
-    base::wide8(job::number(verdict))
+    u32::from(job::number(r.verdict))
 }
 
 // Reads a file and writes its job to `out`: 0, or the refusal's number.
+#[tactic(auto, unfolding(crate::specs::Timing::copy_answer, crate::specs::Timing::copy_out, crate::specs::Timing::job_held_in))]
 #[unsafe(no_mangle)]
 pub extern "C" fn timing_copy(file: &[u8], out: &mut [u8]) -> u32
     ensures { Copied result out.new (reading_of (read_job file.now)) out.old }
 {
     let r = job::read(file);
-    let verdict = r.verdict;
-    let Verdict::Counts { tasks, edges } = verdict else {
-        return base::wide8(job::number(verdict));
+    let Verdict::Counts { tasks, edges } = r.verdict else {
+        return u32::from(job::number(r.verdict));
     };
-    let written = job::write(r.platform, tasks, edges, r.arrays, out);
-    written_number(written)
+    let job = HeldJob {
+        platform: r.platform,
+        tasks,
+        edges,
+        arrays: &r.arrays,
+    };
+    answer_number(job::write(&job, out))
 }
 
 // Makes the square of costs, and returns the entry at row p and column q, 0 where there is none: which one is not known before, so that
@@ -136,34 +92,23 @@ pub extern "C" fn timing_square(
 }
 
 // The number of a refused file, or 9 for what is lent beside an accepted one.
+#[tactic(auto, using(job::specs::Accepted::refused_is), unfolding(crate::specs::Timing::or_nine))]
 fn or_nine(file: &[u8]) -> u32
     ensures { result ≡ or_nine (read_job file.now) }
 {
-    let r = job::read(file);
-    let verdict = r.verdict;
-    let Verdict::Counts { tasks: _, edges: _ } = verdict else {
-        return base::wide8(job::number(verdict));
-    };
-    9
-}
-
-// The number of a refused cover call.
-fn cover_refusal(covered: Covered) -> u32
-    ensures { result ≡ refusal_in covered }
-{
-    match covered {
-        Covered::Cover(_) => 0,
-        Covered::Refused(number) => base::wide8(number),
+    match job::read(file).verdict {
+        Verdict::Counts { .. } => 9,
+        Verdict::Refused(refusal) => u32::from(refusal.number()),
     }
 }
 
 // Puts the cover, the least cover and the dearest chain into the first three places of `out`: 0, or the number of a refused cover call.
-fn put_figures(covered: Covered, out: &mut [u32]) -> u32
+fn put_figures(covered: Result<Figures, Refusal>, out: &mut [u32]) -> u32
     requires { 3 ≤ length out.old }
-    ensures { (result ≡ refusal_in covered) × (out.new ≡ numbers_in covered out.old) }
+    ensures { (result ≡ refusal_in (as_covered covered)) × (out.new ≡ numbers_in (as_covered covered) out.old) }
 {
-    let Covered::Cover(figures) = covered else {
-        return cover_refusal(covered);
+    let Ok(figures) = covered else {
+        return answer_number(covered);
     };
     out[0] = figures.cover;
     out[1] = figures.least;
@@ -173,6 +118,7 @@ fn put_figures(covered: Covered, out: &mut [u32]) -> u32
 
 // The cover call: 0 with the cover, the least cover and the dearest chain in the first three places of `out`, or the refusal's number;
 // `out` is one of the slices that can be too short (9).
+#[tactic(auto, unfolding(crate::specs::Timing::cover_timed))]
 #[unsafe(no_mangle)]
 pub extern "C" fn timing_cover(
     file: &[u8],
@@ -187,11 +133,11 @@ pub extern "C" fn timing_cover(
     if out.len() < 3 {
         return or_nine(file);
     }
-    let covered = schedule::cover(file, starts, processors, scratch);
-    put_figures(covered, out)
+    put_figures(schedule::cover(file, starts, processors, scratch), out)
 }
 
 // The same of the plan with ties in start to the task with the greatest weight.
+#[tactic(auto, unfolding(crate::specs::Timing::cover_timed))]
 #[unsafe(no_mangle)]
 pub extern "C" fn timing_cover_by_weight(
     file: &[u8],
@@ -206,41 +152,24 @@ pub extern "C" fn timing_cover_by_weight(
     if out.len() < 3 {
         return or_nine(file);
     }
-    let covered = schedule::cover_by_weight(file, starts, processors, scratch);
-    put_figures(covered, out)
-}
-
-// 0 for a page that was drawn, or the refusal's number.
-fn drawn_number(drawn: Drawn) -> u32
-    ensures { result ≡ drawn_number drawn }
-{
-    match drawn {
-        Drawn::Length(_) => 0,
-        Drawn::Refused(number) => base::wide8(number),
-    }
+    put_figures(
+        schedule::cover_by_weight(file, starts, processors, scratch),
+        out,
+    )
 }
 
 // Draws the page of a plan for the job of a file at the front of `out`: 0, or the refusal's number.
+#[tactic(auto, unfolding(crate::specs::Timing::draw_timed))]
 #[unsafe(no_mangle)]
 pub extern "C" fn timing_draw(file: &[u8], starts: &[u32], processors: &[u8], out: &mut [u8]) -> u32
     ensures { draw_returned result out.new ≡
         draw_timed file.now starts.now processors.now out.old }
 {
-    let drawn = gantt::draw(file, starts, processors, out);
-    drawn_number(drawn)
-}
-
-// 0 for a plan, or the refusal's number.
-fn planned_number(planned: Planned) -> u32
-    ensures { result ≡ planned_number planned }
-{
-    match planned {
-        Planned::Plan(_) => 0,
-        Planned::Refused(number) => base::wide8(number),
-    }
+    answer_number(gantt::draw(file, starts, processors, out))
 }
 
 // Plans the job of a file with 512 places of scratch: 0, or the refusal's number.
+#[tactic(auto, unfolding(crate::specs::Timing::plan_timed))]
 #[unsafe(no_mangle)]
 pub extern "C" fn timing_small(
     file: &[u8],
@@ -251,11 +180,11 @@ pub extern "C" fn timing_small(
     ensures { called result starts.new processors.new scratch.new ≡
         plan_timed small_call file.now starts.old processors.old scratch.old }
 {
-    let planned = schedule::plan_small(file, starts, processors, scratch);
-    planned_number(planned)
+    answer_number(schedule::plan_small(file, starts, processors, scratch))
 }
 
 // Plans the job of a file with ties in start to the task with the greatest weight: 0, or the refusal's number.
+#[tactic(auto, unfolding(crate::specs::Timing::plan_timed))]
 #[unsafe(no_mangle)]
 pub extern "C" fn timing_plan_by_weight(
     file: &[u8],
@@ -266,6 +195,5 @@ pub extern "C" fn timing_plan_by_weight(
     ensures { called result starts.new processors.new scratch.new ≡
         plan_timed weight_call file.now starts.old processors.old scratch.old }
 {
-    let planned = schedule::plan_by_weight(file, starts, processors, scratch);
-    planned_number(planned)
+    answer_number(schedule::plan_by_weight(file, starts, processors, scratch))
 }

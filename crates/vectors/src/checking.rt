@@ -2,62 +2,53 @@
 //
 //   0  number of starts (2)         4  the starts (4 each), then the processors, then the file
 //   2  number of processors (2)
-ghost use Rattle.std.specs.Prelude.{◌+◌, ◌*◌, ◌≤◌, length};
-
-use crate::{number, show};
-use schedule::Checked;
+use crate::body::Body;
 use std::io::{self, Write};
 
-fn show_checked<W: Write>(sink: &mut W, checked: Checked) -> io::Result<()> {
-    match checked {
-        Checked::Yes => {
-            show::text(sink, b" check yes\n")?;
-        }
-        Checked::Refused(number) => {
-            show::text(sink, b" check refused")?;
-            show::word(sink, number::wide8(number))?;
-            show::text(sink, b"\n")?;
-        }
+// A plan that is handed in, and the file of its job.
+#[derive(Clone, Copy)]
+pub struct Plan<'a> {
+    pub starts: &'a [u32],
+    pub processors: &'a [u8],
+    pub file: &'a [u8],
+}
+
+// The plan and the file of a body, with the starts in `times`.
+pub fn handed<'a>(mut body: Body<'a>, times: &'a mut [u32]) -> Option<Plan<'a>> {
+    let starts = body.length()?;
+    let processors = body.length()?;
+    if times.len() < starts {
+        return None;
     }
-    Ok(())
+    let starts = &mut times[..starts];
+    for start in starts.iter_mut() {
+        *start = body.four()?;
+    }
+    Some(Plan {
+        starts,
+        processors: body.bytes(processors)?,
+        file: body.rest(),
+    })
 }
 
 // What the checker says.
-pub fn check<W: Write>(
-    sink: &mut W,
-    file: &[u8],
-    starts: &[u32],
-    processors: &[u8],
-) -> io::Result<()> {
-    show_checked(sink, schedule::check(file, starts, processors))
-}
-
-// The starts of a body.
-pub fn put_starts(body: &[u8], given: usize, starts: &mut [u32])
-    requires { (given ≤ length starts.old) × (4 + 4 * given ≤ length body.now) }
-{
-    for i in 0..given {
-        starts[i] = number::four(body, 4 + 4 * i) as u32;
+pub fn check<W: Write>(sink: &mut W, plan: Plan) -> io::Result<()> {
+    match schedule::check(plan.file, plan.starts, plan.processors) {
+        Ok(()) => writeln!(sink, " check yes"),
+        Err(refusal) => writeln!(sink, " check refused {}", refusal.number()),
     }
 }
 
 pub fn case<W: Write>(sink: &mut W, body: &[u8]) -> io::Result<()> {
-    if body.len() < 4 {
-        return Ok(());
-    }
-    let starts = number::two(body, 0) as usize;
-    if 300 < starts {
-        return Ok(());
-    }
-    let at = 4 + 4 * starts;
-    let file = at + number::two(body, 2) as usize;
-    if body.len() < file {
-        return Ok(());
-    }
     let mut times = [0u32; 300];
-    put_starts(body, starts, &mut times);
-    show::text(sink, b"plan of")?;
-    show::word(sink, number::wide(starts))?;
-    show::word(sink, number::wide(file - at))?;
-    check(sink, &body[file..], &times[0..starts], &body[at..file])
+    let Some(plan) = handed(Body::new(body), &mut times) else {
+        return Ok(());
+    };
+    write!(
+        sink,
+        "plan of {} {}",
+        plan.starts.len(),
+        plan.processors.len()
+    )?;
+    check(sink, plan)
 }

@@ -2,70 +2,44 @@
 // in the buffer, on a refusal of the whole buffer. Its body:
 //
 //   0  length of the buffer (2)    2  fill of the buffer    3  the plan and the file, as in a case of the checker
-use crate::{checking, number, show};
-use gantt::Drawn;
+use crate::body::Body;
+use crate::checking::{self, Plan};
+use crate::show;
 use std::io::{self, Write};
 
 // The bytes past the page.
 fn show_past<W: Write>(sink: &mut W, bytes: &[u8]) -> io::Result<()> {
-    show::text(sink, b" past it")?;
-    show::byte_digest(sink, bytes)?;
-    show::text(sink, b"\n")
+    let digest = show::digest(0, bytes);
+    writeln!(sink, " past it {digest}")
 }
 
-fn show_drawn<W: Write>(sink: &mut W, drawn: Drawn, out: &[u8]) -> io::Result<()> {
-    match drawn {
-        Drawn::Length(length) => {
-            show::text(sink, show::first(out, length))?;
-            show::text(sink, b"page of")?;
-            show::word(sink, number::wide(length))?;
-            show_past(sink, show::rest(out, length))?;
+fn draw<W: Write>(sink: &mut W, plan: Plan, out: &mut [u8]) -> io::Result<()> {
+    match gantt::draw(plan.file, plan.starts, plan.processors, out) {
+        Ok(length) => {
+            let (page, past) = out.split_at(length.min(out.len()));
+            sink.write_all(page)?;
+            write!(sink, "page of {length}")?;
+            show_past(sink, past)
         }
-        Drawn::Refused(number) => {
-            show::text(sink, b"page refused")?;
-            show::word(sink, number::wide8(number))?;
-            show_past(sink, out)?;
+        Err(refusal) => {
+            write!(sink, "page refused {}", refusal.number())?;
+            show_past(sink, out)
         }
     }
-    Ok(())
-}
-
-fn draw<W: Write>(
-    sink: &mut W,
-    file: &[u8],
-    starts: &[u32],
-    processors: &[u8],
-    out: &mut [u8],
-) -> io::Result<()> {
-    let drawn = gantt::draw(file, starts, processors, out);
-    show_drawn(sink, drawn, out)
 }
 
 pub fn case<W: Write>(sink: &mut W, body: &[u8]) -> io::Result<()> {
-    if body.len() < 7 {
+    let mut body = Body::new(body);
+    let (Some(room), Some(fill)) = (body.length(), body.byte()) else {
         return Ok(());
-    }
-    let room = number::two(body, 0) as usize;
-    let starts = number::two(body, 3) as usize;
-    if 1200 < room {
-        return Ok(());
-    }
-    if 300 < starts {
-        return Ok(());
-    }
-    let at = 7 + 4 * starts;
-    let file = at + number::two(body, 5) as usize;
-    if body.len() < file {
-        return Ok(());
-    }
+    };
     let mut times = [0u32; 300];
-    checking::put_starts(&body[3..], starts, &mut times);
-    let mut out = [body[2]; 1200];
-    draw(
-        sink,
-        &body[file..],
-        &times[0..starts],
-        &body[at..file],
-        &mut out[0..room],
-    )
+    let Some(plan) = checking::handed(body, &mut times) else {
+        return Ok(());
+    };
+    let mut buffer = [fill; 1200];
+    let Some(out) = buffer.get_mut(..room) else {
+        return Ok(());
+    };
+    draw(sink, plan, out)
 }

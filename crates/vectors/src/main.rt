@@ -14,9 +14,9 @@
 // The body of 'r' is a file; the others' are in the files that run them.
 #![tactic(auto)]
 
+mod body;
 mod checking;
 mod drawing;
-mod number;
 mod planning;
 mod reading;
 mod show;
@@ -25,57 +25,28 @@ mod text;
 mod writing;
 
 use std::io::{self, BufReader, BufWriter, ErrorKind, Read, Write};
+use writing::Before;
 
-fn run_job<W: Write>(sink: &mut W, what: u8, body: &[u8]) -> io::Result<()> {
-    if what == b'r' {
-        reading::case(sink, body)?;
+fn run<W: Write>(sink: &mut W, what: u8, body: &[u8]) -> io::Result<()> {
+    match what {
+        b'r' => reading::case(sink, body),
+        b'w' => writing::case(sink, Before::Nothing, body),
+        b'v' => writing::case(sink, Before::Wires, body),
+        b'u' => writing::case(sink, Before::ResultsAndWires, body),
+        b'p' => planning::case(sink, body),
+        b'h' => planning::weight_case(sink, body),
+        b'c' => checking::case(sink, body),
+        b'd' => drawing::case(sink, body),
+        b's' => station::plan_case(sink, body),
+        b'b' => station::check_case(sink, body),
+        b'g' => station::page_case(sink, body),
+        b't' => text::case(sink, body),
+        _ => Ok(()),
     }
-    if what == b'w' {
-        writing::case(sink, body)?;
-    }
-    if what == b'v' {
-        writing::wired_case(sink, body)?;
-    }
-    if what == b'u' {
-        writing::result_case(sink, body)?;
-    }
-    if what == b't' {
-        text::case(sink, body)?;
-    }
-    Ok(())
-}
-
-fn run_plan<W: Write>(sink: &mut W, what: u8, body: &[u8]) -> io::Result<()> {
-    if what == b'p' {
-        planning::case(sink, body)?;
-    }
-    if what == b'h' {
-        planning::weight_case(sink, body)?;
-    }
-    if what == b'c' {
-        checking::case(sink, body)?;
-    }
-    if what == b'd' {
-        drawing::case(sink, body)?;
-    }
-    Ok(())
-}
-
-fn run_station<W: Write>(sink: &mut W, what: u8, body: &[u8]) -> io::Result<()> {
-    if what == b's' {
-        station::plan_case(sink, body)?;
-    }
-    if what == b'b' {
-        station::check_case(sink, body)?;
-    }
-    if what == b'g' {
-        station::page_case(sink, body)?;
-    }
-    Ok(())
 }
 
 // Fills the buffer, and answers whether the input had as many bytes.
-fn fill_all<R: Read>(source: &mut R, buffer: &mut [u8]) -> io::Result<bool> {
+fn fill<R: Read>(source: &mut R, buffer: &mut [u8]) -> io::Result<bool> {
     match source.read_exact(buffer) {
         Ok(()) => Ok(true),
         Err(error) if error.kind() == ErrorKind::UnexpectedEof => Ok(false),
@@ -83,28 +54,20 @@ fn fill_all<R: Read>(source: &mut R, buffer: &mut [u8]) -> io::Result<bool> {
     }
 }
 
-// Fills the first `length` places of the buffer, and answers whether the input had as many bytes.
-fn fill<R: Read>(source: &mut R, buffer: &mut [u8], length: usize) -> io::Result<bool> {
-    if length <= buffer.len() {
-        fill_all(source, &mut buffer[0..length])
-    } else {
-        Ok(false)
-    }
-}
-
 // Runs the next case, and answers whether there was one.
 fn next<R: Read, W: Write>(source: &mut R, sink: &mut W) -> io::Result<bool> {
     let mut head = [0u8; 3];
-    if !fill_all(source, &mut head)? {
+    if !fill(source, &mut head)? {
         return Ok(false);
     }
-    let length = number::from_two(head[1], head[2]);
+    let [what, low, high] = head;
     let mut buffer = [0u8; 16384];
-    let is_whole = fill(source, &mut buffer, length)?;
+    let Some(body) = buffer.get_mut(..usize::from(u16::from_le_bytes([low, high]))) else {
+        return Ok(false);
+    };
+    let is_whole = fill(source, body)?;
     if is_whole {
-        run_job(sink, head[0], show::first(&buffer, length))?;
-        run_plan(sink, head[0], show::first(&buffer, length))?;
-        run_station(sink, head[0], show::first(&buffer, length))?;
+        run(sink, what, body)?;
     }
     Ok(is_whole)
 }

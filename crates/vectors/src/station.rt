@@ -11,72 +11,60 @@
 // The page's case: what it returns for a plan that is handed in, and a digest of the whole buffer. Its body:
 //
 //   0  length of the buffer (2)    2  fill of the buffer    3  the plan and the file, as in a case of the checker
-use crate::{number, show};
+use crate::body::Body;
+use crate::show;
 use std::io::{self, Write};
 
 fn check<W: Write>(sink: &mut W, job: &[u8], plan: &[u8]) -> io::Result<()> {
-    show::text(sink, b" check")?;
-    show::word(sink, number::wide32(kelvrist::kelvrist_check(job, plan)))?;
-    show::text(sink, b"\n")
-}
-
-fn plan<W: Write>(sink: &mut W, job: &[u8], plan: &mut [u8]) -> io::Result<()> {
-    show::text(sink, b"station")?;
-    show::word(sink, number::wide32(kelvrist::kelvrist_plan(job, plan)))?;
-    show::text(sink, b" [")?;
-    show::hex(sink, plan)?;
-    show::text(sink, b"]")?;
-    check(sink, job, plan)
+    let returned = kelvrist::kelvrist_check(job, plan);
+    writeln!(sink, " check {returned}")
 }
 
 pub fn plan_case<W: Write>(sink: &mut W, body: &[u8]) -> io::Result<()> {
-    if body.len() < 3 {
+    let mut body = Body::new(body);
+    let (Some(room), Some(fill)) = (body.length(), body.byte()) else {
         return Ok(());
-    }
-    let room = number::two(body, 0) as usize;
-    if 1500 < room {
+    };
+    let mut buffer = [fill; 1500];
+    let Some(plan) = buffer.get_mut(..room) else {
         return Ok(());
-    }
-    let mut bytes = [body[2]; 1500];
-    plan(sink, &body[3..], &mut bytes[0..room])
+    };
+    let job = body.rest();
+    let returned = kelvrist::kelvrist_plan(job, plan);
+    write!(sink, "station {returned} [")?;
+    show::hex(sink, plan)?;
+    write!(sink, "]")?;
+    check(sink, job, plan)
+}
+
+// A plan, after its length, and the file of its job.
+fn handed<'a>(mut body: Body<'a>) -> Option<(&'a [u8], &'a [u8])> {
+    let length = body.length()?;
+    Some((body.bytes(length)?, body.rest()))
 }
 
 pub fn check_case<W: Write>(sink: &mut W, body: &[u8]) -> io::Result<()> {
-    if body.len() < 2 {
+    let Some((plan, job)) = handed(Body::new(body)) else {
         return Ok(());
-    }
-    let file = 2 + number::two(body, 0) as usize;
-    if body.len() < file {
-        return Ok(());
-    }
-    show::text(sink, b"station plan of")?;
-    show::word(sink, number::wide(file - 2))?;
-    check(sink, &body[file..], &body[2..file])
-}
-
-fn page<W: Write>(sink: &mut W, job: &[u8], plan: &[u8], page: &mut [u8]) -> io::Result<()> {
-    show::text(sink, b"station page")?;
-    show::word(
-        sink,
-        number::wide32(kelvrist::kelvrist_page(job, plan, page)),
-    )?;
-    show::text(sink, b" leaves")?;
-    show::byte_digest(sink, page)?;
-    show::text(sink, b"\n")
+    };
+    let length = plan.len();
+    write!(sink, "station plan of {length}")?;
+    check(sink, job, plan)
 }
 
 pub fn page_case<W: Write>(sink: &mut W, body: &[u8]) -> io::Result<()> {
-    if body.len() < 5 {
+    let mut body = Body::new(body);
+    let (Some(room), Some(fill)) = (body.length(), body.byte()) else {
         return Ok(());
-    }
-    let room = number::two(body, 0) as usize;
-    if 1200 < room {
+    };
+    let Some((plan, job)) = handed(body) else {
         return Ok(());
-    }
-    let file = 5 + number::two(body, 3) as usize;
-    if body.len() < file {
+    };
+    let mut buffer = [fill; 1200];
+    let Some(page) = buffer.get_mut(..room) else {
         return Ok(());
-    }
-    let mut bytes = [body[2]; 1200];
-    page(sink, &body[file..], &body[5..file], &mut bytes[0..room])
+    };
+    let returned = kelvrist::kelvrist_page(job, plan, page);
+    let digest = show::digest(0, page);
+    writeln!(sink, "station page {returned} leaves {digest}")
 }

@@ -8,156 +8,113 @@
 //
 // Places of the arrays past those that are given hold the fill. A case with wires has all 256 places of theirs before that, one with
 // results all 256 of these (2 each) and then those of the wires; in a case without they are 0.
-ghost use Rattle.std.specs.Prelude.{◌+◌, ◌*◌, ◌≤◌, length};
-
-use crate::{number, show};
-use job::{Arrays, Platform, Written};
+use crate::body::Body;
+use crate::show;
+use job::{Arrays, HeldJob, Platform};
 use std::io::{self, Write};
 
-fn put_wires(body: &[u8], wires: &mut [u8; 256])
-    requires { 256 ≤ length body.now }
-{
-    for i in 0..256 {
-        wires[i] = body[i];
-    }
+// What comes before the job in the body of a case.
+#[derive(Clone, Copy)]
+pub enum Before {
+    Nothing,
+    Wires,
+    ResultsAndWires,
 }
 
-fn put_results(body: &[u8], results: &mut [u16; 256])
-    requires { 512 ≤ length body.now }
-{
-    for i in 0..256 {
-        results[i] = number::two(body, 2 * i) as u16;
-    }
-}
-
-fn put_durations(body: &[u8], given: usize, durations: &mut [u32; 256])
-    requires { (given ≤ 256) × (32 + 4 * given ≤ length body.now) }
-{
-    for i in 0..given {
-        durations[i] = number::four(body, 32 + 4 * i) as u32;
-    }
-}
-
-// The edges given, from byte `at` of the body on.
-fn put_edges(
-    body: &[u8],
-    at: usize,
-    from: &mut [u8; 1024],
-    to: &mut [u8; 1024],
-    counts: &mut [u16; 1024],
-) {
-    let mut place = at;
-    for i in 0..1024 {
-        if body.len() < 4 {
-            return;
-        }
-        if body.len() - 4 < place {
-            return;
-        }
-        from[i] = body[place];
-        to[i] = body[place + 1];
-        counts[i] = number::two(body, place + 2) as u16;
-        place += 4;
-    }
-}
-
-fn show_written<W: Write>(sink: &mut W, written: Written) -> io::Result<()> {
-    match written {
-        Written::Length(n) => {
-            show::text(sink, b"written")?;
-            show::word(sink, number::wide(n))?;
-        }
-        Written::Refused(number) => {
-            show::text(sink, b"refused")?;
-            show::word(sink, number::wide8(number))?;
-        }
-    }
-    Ok(())
-}
-
-// Writes the job to the first `room` bytes of the output.
-fn write<W: Write>(
-    sink: &mut W,
-    body: &[u8],
-    room: usize,
+// A job held as numbers, and the length and the fill of the output.
+#[derive(Drop)]
+struct Held {
+    platform: Platform,
+    tasks: usize,
+    edges: usize,
     arrays: Arrays,
-    out: &mut [u8],
-) -> io::Result<()>
-    requires { (32 ≤ length body.now) × (room ≤ length out.old) }
-{
-    let platform = Platform {
-        processors: body[16],
-        topology: body[17],
-        unit: body[18],
-    };
-    let tasks = number::eight(body, 0) as usize;
-    let edges = number::eight(body, 8) as usize;
-    let written = job::write(platform, tasks, edges, arrays, &mut out[0..room]);
-    show_written(sink, written)?;
-    show::text(sink, b" [")?;
-    show::hex(sink, show::first(out, room))?;
-    show::text(sink, b"]\n")
+    room: usize,
+    fill: u8,
 }
 
-// Runs the case of a job held as numbers, with these wires and results.
-fn held<W: Write>(
-    sink: &mut W,
-    body: &[u8],
-    wires: [u8; 256],
-    results: [u16; 256],
-) -> io::Result<()> {
-    if body.len() < 32 {
-        return Ok(());
-    }
-    let room = number::two(body, 20) as usize;
-    let given = number::two(body, 22) as usize;
-    if 8400 < room {
-        return Ok(());
-    }
-    if 256 < given {
-        return Ok(());
-    }
-    if body.len() < 32 + 4 * given {
-        return Ok(());
-    }
-    let mut durations = [number::four(body, 24) as u32; 256];
-    let mut from = [body[28]; 1024];
-    let mut to = [body[29]; 1024];
-    let mut counts = [number::two(body, 30) as u16; 1024];
-    put_durations(body, given, &mut durations);
-    put_edges(body, 32 + 4 * given, &mut from, &mut to, &mut counts);
-    let mut out = [body[19]; 8400];
-    let arrays = Arrays {
-        durations,
-        from,
-        to,
-        counts,
-        wires,
-        results,
-    };
-    write(sink, body, room, arrays, &mut out)
-}
-
-pub fn case<W: Write>(sink: &mut W, body: &[u8]) -> io::Result<()> {
-    held(sink, body, [0u8; 256], [0u16; 256])
-}
-
-pub fn wired_case<W: Write>(sink: &mut W, body: &[u8]) -> io::Result<()> {
-    if body.len() < 256 {
-        return Ok(());
-    }
-    let mut wires = [0u8; 256];
-    put_wires(body, &mut wires);
-    held(sink, &body[256..], wires, [0u16; 256])
-}
-
-pub fn result_case<W: Write>(sink: &mut W, body: &[u8]) -> io::Result<()> {
-    if body.len() < 768 {
-        return Ok(());
-    }
+fn results(body: &mut Body) -> Option<[u16; 256]> {
     let mut results = [0u16; 256];
-    let mut wires = [0u8; 256];
-    put_results(body, &mut results);
-    put_wires(&body[512..], &mut wires);
-    held(sink, &body[768..], wires, results)
+    for count in results.iter_mut() {
+        *count = body.two()?;
+    }
+    Some(results)
+}
+
+// An edge: its ends and its message count.
+fn edge(body: &mut Body) -> Option<(u8, u8, u16)> {
+    Some((body.byte()?, body.byte()?, body.two()?))
+}
+
+fn read(before: Before, body: &[u8]) -> Option<Held> {
+    let mut body = Body::new(body);
+    let results = match before {
+        Before::ResultsAndWires => results(&mut body)?,
+        _ => [0; 256],
+    };
+    let wires = match before {
+        Before::Nothing => [0; 256],
+        _ => body.array()?,
+    };
+    let tasks = body.eight()?;
+    let edges = body.eight()?;
+    let platform = Platform {
+        processors: body.byte()?,
+        topology: body.byte()?,
+        unit: body.byte()?,
+    };
+    let fill = body.byte()?;
+    let room = body.length()?;
+    let given = body.length()?;
+    let mut durations = [body.four()?; 256];
+    let mut from = [body.byte()?; 1024];
+    let mut to = [body.byte()?; 1024];
+    let mut counts = [body.two()?; 1024];
+    for duration in durations.get_mut(..given)?.iter_mut() {
+        *duration = body.four()?;
+    }
+    for i in 0..1024 {
+        let Some((sender, receiver, count)) = edge(&mut body) else {
+            break;
+        };
+        from[i] = sender;
+        to[i] = receiver;
+        counts[i] = count;
+    }
+    Some(Held {
+        platform,
+        tasks,
+        edges,
+        arrays: Arrays {
+            durations,
+            from,
+            to,
+            counts,
+            wires,
+            results,
+        },
+        room,
+        fill,
+    })
+}
+
+pub fn case<W: Write>(sink: &mut W, before: Before, body: &[u8]) -> io::Result<()> {
+    let Some(case) = read(before, body) else {
+        return Ok(());
+    };
+    let mut buffer = [case.fill; 8400];
+    let Some(out) = buffer.get_mut(..case.room) else {
+        return Ok(());
+    };
+    let job = HeldJob {
+        platform: case.platform,
+        tasks: case.tasks,
+        edges: case.edges,
+        arrays: &case.arrays,
+    };
+    match job::write(&job, out) {
+        Ok(length) => write!(sink, "written {length} [")?,
+        Err(refusal) => write!(sink, "refused {} [", refusal.number())?,
+    }
+    show::hex(sink, out)?;
+    writeln!(sink, "]")
 }

@@ -1,9 +1,9 @@
--- `number2` is the number of its two bytes.
-use native.Mathlib.Omega.{arith}
+-- `number2` is the number of its bytes.
+use Rattle.std.proofs.Common.{arith}
 use Rattle.base.specs.Number.{number}
 use Rattle.base.proofs.number2.Goals as goal
 
 pub returns : goal.returns
 unfolding number
 returns c =
-    omega arith
+    let h = c.from_le_bytes.ensures in omega arith

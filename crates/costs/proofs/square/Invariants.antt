@@ -2,7 +2,7 @@
 use mathlib.Core.Path.{◌≡◌, refl, ap, sym, ◌∙◌}
 use mathlib.Core.Logic.{◌⊎◌, inl, inr}
 use mathlib.Core.List.{List, [], ◌∷◌}
-use Prim.Native.Nat.{ℕ, zero, suc, ◌+◌, ◌*◌, ◌-◌, ◌≤◌, ◌<◌, min}
+use Prim.Native.Nat.{ℕ, zero, suc, ◌+◌, ◌*◌, ◌≤◌, ◌<◌, min}
 use native.Mathlib.Omega.{arith}
 use borrow.Author.Tests.{lt-ltb, le-ltb}
 use lib.ListN.{length, get_or, set, replicate, length-set, get_or-replicate}
@@ -94,14 +94,6 @@ module _ (n : ℕ) (c : ℕ → ℕ → ℕ) where
           let g : j ≡ q = omega arith in
           inl (rw (f, g) here)
 
-  -- past the row's last processor no place of the row is to come
-  pub row_done : (a : List (List ℕ)) (p q : ℕ) → Held (16 * p + q) a → min n 16 ≤ q → Held (16 * (p + 1)) a
-  row_done a p q s g = record { rows = s.rows; columns = s.columns; entries = λ i j h k. at i j k (s.entries i j h k) }
-    where
-      at : (i j : ℕ) → j < 16 → Right (16 * p + q) a i j → Right (16 * (p + 1)) a i j
-      at i j k (inl w) = inl w
-      at i j k (inr w) = inr (w.0, w.1, omega arith)
-
   -- past the last row no place is to come
   pub done : (a : List (List ℕ)) (p : ℕ) → Held (16 * p) a → min n 16 ≤ p → a ≡ square n c
   done a p s g =
@@ -116,13 +108,7 @@ module _ (n : ℕ) (c : ℕ → ℕ → ℕ) where
 
 -- ---- the loops
 abbrev pub invariant-loop-q : goal.invariant-loop-q
-invariant-loop-q l = (l.q ≤ l.n) × Held l.platform.processors (cost l.platform (loaded l.wires)) (16 * l.p + l.q) l.costs
-
-abbrev pub decreases-loop-q : goal.decreases-loop-q
-decreases-loop-q l = l.n - l.q
+invariant-loop-q l = Held l.platform.processors (cost l.platform (loaded l.wires)) (16 * l.p + l.q) l.costs
 
 abbrev pub invariant-loop-p : goal.invariant-loop-p
-invariant-loop-p l = (l.p ≤ l.n) × Held l.platform.processors (cost l.platform (loaded l.wires)) (16 * l.p) l.costs
-
-abbrev pub decreases-loop-p : goal.decreases-loop-p
-decreases-loop-p l = l.n - l.p
+invariant-loop-p l = Held l.platform.processors (cost l.platform (loaded l.wires)) (16 * l.p) l.costs

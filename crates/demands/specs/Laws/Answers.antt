@@ -7,10 +7,8 @@ use Rattle.job.specs.Job.{Job}
 use Rattle.etf.specs.Instance.{Instance}
 use Rattle.schedule.specs.declared.Outcome.{Outcome}
 use Rattle.schedule.specs.declared.Figures.{Figures}
-use Rattle.schedule.specs.declared.Planned.{Planned}
-use Rattle.schedule.specs.declared.Planned.TheVariants.{Plan, Refused as NotPlanned}
-use Rattle.schedule.specs.declared.Covered.{Covered}
-use Rattle.schedule.specs.declared.Covered.TheVariants.{Cover, Refused as NotCovered}
+use Rattle.schedule.specs.Answers.Planned.{Planned, Plan, Refused as NotPlanned}
+use Rattle.schedule.specs.Answers.Covered.{Covered, Cover, Refused as NotCovered}
 use Rattle.schedule.specs.Call.{called, CallNumber}
 use Rattle.schedule.specs.Plan.{outcome_by, plan_call_by}
 use Rattle.schedule.specs.Cover.{figures, cover_call_by}

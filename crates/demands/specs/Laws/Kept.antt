@@ -22,9 +22,9 @@ use Rattle.etf.proofs.Walks.{cover_walk}
 use Rattle.etf.proofs.Chains.{none_dearer, one_as_dear}
 use Rattle.etf.specs.OfJob.{instance, TieRule}
 use Rattle.etf.proofs.Jobs.{by_number, well_formed, dearest_same}
-use Rattle.schedule.specs.declared.Planned.TheVariants.{Refused as NotPlanned}
-use Rattle.schedule.specs.declared.Covered.TheVariants.{Cover, Refused as NotCovered}
-use Rattle.schedule.specs.declared.Checked.TheVariants.{Yes}
+use Rattle.schedule.specs.Answers.Planned.{Refused as NotPlanned}
+use Rattle.schedule.specs.Answers.Covered.{Cover, Refused as NotCovered}
+use Rattle.schedule.specs.Answers.Checked.{Yes}
 use Rattle.schedule.specs.declared.Outcome.{Outcome}
 use Rattle.schedule.specs.declared.Figures.{Figures}
 use Rattle.schedule.specs.Call.{Call, start_of, processor_of, laid_out_call}

@@ -10,8 +10,8 @@ use Rattle.job.specs.Refusal.{read_numbers}
 use Rattle.etf.specs.Instance.{duration}
 use Rattle.etf.specs.OfJob.{instance}
 use Rattle.etf.proofs.Jobs.{by_number}
-use Rattle.schedule.specs.declared.Planned.TheVariants.{Plan}
-use Rattle.schedule.specs.declared.Covered.TheVariants.{Cover}
+use Rattle.schedule.specs.Answers.Planned.{Plan}
+use Rattle.schedule.specs.Answers.Covered.{Cover}
 use Rattle.schedule.specs.declared.Outcome.{Outcome}
 use Rattle.schedule.specs.declared.Figures.{Figures}
 use Rattle.schedule.specs.Call.{start_of, processor_of}

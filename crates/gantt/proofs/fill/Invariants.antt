@@ -1,13 +1,6 @@
--- `fill`: the bytes put so far are a run of as many stores.
-use mathlib.Core.Path.{◌≡◌}
-use Prim.Native.Nat.{◌+◌, ◌-◌, ◌≤◌}
-use lib.ListN.{length, replicate}
-use lib.Seq.{sets}
+-- `fill`: before a place has its turn the places before it hold the byte.
+use Rattle.std.proofs.Common.{◌≡◌, ◌++◌, replicate, drop}
 use Rattle.gantt.proofs.fill.Given as goal
 
-abbrev pub invariant-loop-i : goal.invariant-loop-i
-invariant-loop-i l = (l.i ≤ l.count) × (l.at + l.count ≤ length l.initial.out) × (length l.out ≡ length l.initial.out)
-    × (l.out ≡ sets l.initial.out l.at (replicate l.i l.byte))
-
-abbrev pub decreases-loop-i : goal.decreases-loop-i
-decreases-loop-i l = l.count - l.i
+abbrev pub invariant-loop-place : goal.invariant-loop-place
+invariant-loop-place l = l.place-items ≡ replicate l.place-index l.byte ++ drop l.place-index l.initial.place-items

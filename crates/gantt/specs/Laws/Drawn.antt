@@ -1,5 +1,6 @@
 -- What `draw` learns from the reading and the checker's verdict, and that each of its returns is a row of the definition.
 use Rattle.std.specs.Prelude.{Bool, ◌&&◌, ◌≡◌, refl, List, [], ◌∷◌, ◌++◌, map, ℕ, ◌+◌, ◌*◌, ◌/◌, ◌^◌, ◌≤◌, ◌<◌, max, length, drop}
+use Rattle.std.specs.Prelude.{Result, Ok, Err}
 use Rattle.std.proofs.Math.Path.{ap, sym}
 use Rattle.std.proofs.Common.{◌∙◌, drop_at}
 use native.Mathlib.Omega.{arith}
@@ -13,20 +14,21 @@ use Rattle.base.specs.Laws.Lists.{upto_in, map_in}
 use Rattle.base.specs.Laws.Most.{most_ge, most_below, most_same, greatest-upto}
 use Rattle.job.specs.declared.Verdict.TheVariants.{Counts, Refused as NotRead}
 use Rattle.job.specs.declared.Reading.{Reading}
+use Rattle.job.specs.declared.table.Refusal.{Refusal}
 use Rattle.job.specs.Limits.{most_duration}
 use Rattle.job.specs.Job.{Job}
-use Rattle.job.specs.Read.{accepted, read_job, reading_of, verdict_number}
+use Rattle.job.specs.Read.{accepted, read_job, reading_of}
+use Rattle.job.specs.Table.{number_of}
 use Rattle.job.specs.Accepted.{Accepted, accepted_job, counted, refused_is, laid_out}
 use Rattle.etf.specs.Instance.{Instance, tasks, duration}
 use Rattle.etf.specs.Schedule.{Placement, finish, last_finish, schedule_of}
 use Rattle.etf.specs.Checker.{latest_start}
 use Rattle.etf.specs.OfJob.{instance}
-use Rattle.schedule.specs.declared.Checked.{Checked}
-use Rattle.schedule.specs.declared.Checked.TheVariants.{Yes, Refused as NotChecked}
+use Rattle.schedule.specs.Answers.Checked.{Checked, Yes, as_checked, Judgement, as_judgement}
 use Rattle.schedule.specs.declared.Judged.{Judged}
 use Rattle.schedule.specs.Check.{check_for, check_call, judge_call}
 use Rattle.schedule.specs.Verdict.{plan_in, KeptIn, yes_says}
-use Rattle.gantt.specs.declared.Drawn.TheVariants.{Length, Refused}
+use Rattle.gantt.specs.Answer.{Length, Refused}
 use Rattle.gantt.specs.Page.{width, mark, dot, rows, ticks_within, runs_within, cell, page}
 use Rattle.gantt.specs.Draw.{drawn, page_of, drawn_by, draw_for, draw_call}
 use Rattle.gantt.specs.Pass.{Drawable, marks, cells_by}
@@ -51,24 +53,21 @@ with_page : (N n : ℕ) (p q out out' : List ℕ) → N ≡ n → p ≡ q → ou
 unfolding drawn_by
 with_page N n p q out out' a b c = rw (a, b, c)
 
-module _ (file starts processors : List ℕ) {judged : Judged} (is : judged ≡ judge_call file starts processors) where
+module _ (file starts processors : List ℕ) (judged : Judged) (is : as_judgement judged ≡ judge_call file starts processors) where
   -- what was read
   abbrev x : Reading
   x = judged.reading
 
   e : x ≡ reading_of (read_job file)
   unfolding judge_call
-  e = ap (λ (r : Judged). r.reading) is
+  e = ap (λ (r : Judgement). r.reading) is
 
   -- ---- a refused file
 
-  pub passes_on : (out : List ℕ) {k n : ℕ} → x.verdict ≡ NotRead k → n ≡ verdict_number x.verdict
-      → drawn (Refused n) out ≡ draw_call file starts processors out
+  pub passes_on : (out : List ℕ) {k : Refusal} → x.verdict ≡ NotRead k
+      → drawn (Refused (number_of k)) out ≡ draw_call file starts processors out
   unfolding draw_call draw_for
-  passes_on out {k} {n} v n-is =
-      let says = refused_is (read_job file) (ap (λ (r : Reading). r.verdict) (sym e) ∙ v) in
-      let z : n ≡ k = n-is ∙ ap verdict_number v in
-      rw (says, z)
+  passes_on out v = rw (refused_is file (ap (λ (r : Reading). r.verdict) (sym e) ∙ v))
 
   -- ---- an accepted one
 
@@ -115,11 +114,11 @@ module _ (file starts processors : List ℕ) {judged : Judged} (is : judged ≡ 
     module _ {n : ℕ} (n-is : n ≡ x.platform.processors) where
       -- what the checker says
       abbrev c : Checked
-      c = judged.checked
+      c = as_checked judged.checked
 
       verdict_is : c ≡ check_for (accepted job) starts processors
       unfolding judge_call check_call
-      verdict_is = ap (λ (r : Judged). r.checked) is ∙ ap (λ a. check_for a starts processors) says
+      verdict_is = ap (λ (r : Judgement). r.checked) is ∙ ap (λ a. check_for a starts processors) says
 
       pub too_short : (out : List ℕ) → length out < 70 * n → drawn (Refused 9) out ≡ draw_call file starts processors out
       unfolding draw_call draw_for
@@ -131,16 +130,19 @@ module _ (file starts processors : List ℕ) {judged : Judged} (is : judged ≡ 
       by_verdict out room =
           rw (says, le-ltb (length out) (70 * job.platform.processors) (omega (arith, n-is, processors_are)), ← verdict_is)
 
-      pub not_checked : (out : List ℕ) → 70 * n ≤ length out → {k : ℕ} → c ≡ NotChecked k
-          → drawn (Refused k) out ≡ draw_call file starts processors out
+      pub not_checked : (out : List ℕ) → 70 * n ≤ length out → {k : Refusal} → judged.checked ≡ Err k
+          → drawn (Refused (number_of k)) out ≡ draw_call file starts processors out
       unfolding drawn_by
       not_checked out room k-is =
           sym (by_verdict out room
-          ∙ ap (λ (d : Checked). drawn_by d job.platform.processors (page_of job starts processors) out) k-is)
+          ∙ ap (λ (d : Result Unit Refusal). drawn_by (as_checked d) job.platform.processors (page_of job starts processors) out) k-is)
 
       -- ---- the plan is accepted
 
-      module _ (yes : c ≡ Yes) where
+      module _ {u : Unit} (ok : judged.checked ≡ Ok u) where
+        yes : c ≡ Yes
+        yes = ap as_checked ok
+
         kept : KeptIn I starts processors
         kept = yes_says job starts processors (sym verdict_is ∙ yes)
 

@@ -1,10 +1,10 @@
 -- A row put byte by byte and rows put one after the other are the stores of them all.
-use Rattle.std.specs.Prelude.{◌≡◌, ℕ, zero, suc, ◌+◌, ◌*◌, ◌/◌, ◌%◌, ◌≤◌, ltb, length, drop, set, replicate}
+use Rattle.std.specs.Prelude.{◌≡◌, ℕ, zero, suc, ◌+◌, ◌*◌, ◌/◌, ◌%◌, ◌≤◌, ltb, length, take, drop, set, replicate}
 use Rattle.std.proofs.Math.Path.{refl}
-use Rattle.std.proofs.Common.{sym, ◌∙◌, add-one, arith}
+use Rattle.std.proofs.Common.{sym, ◌∙◌, add-one, arith, append_assoc, length-drop, length-take-le}
 use mathlib.Core.List.{List, [], ◌∷◌, ◌++◌, map, flat_map, map-append}
-use Rattle.std.proofs.lemmas.List.{length-replicate, replicate-append-replicate}
-use Rattle.std.proofs.lemmas.List.Edits.{sets}
+use Rattle.std.proofs.lemmas.List.{length-replicate, replicate-append-replicate, drop-drop}
+use Rattle.std.proofs.lemmas.List.Edits.{sets, sets-eq}
 use Rattle.base.specs.Choice.{pick}
 use Rattle.base.specs.Lists.{upto}
 use Rattle.base.specs.Text.{text, space, line_feed}
@@ -20,6 +20,14 @@ pub run_more : (out out' : List ℕ) (at i byte place x : ℕ) → out' ≡ sets
 run_more out out' at i byte place x e place_is x-is =
     sym (rw (← replicate-append-replicate i 1 byte)
     (sets-append out at (replicate i byte) (byte ∷ []) ∙ rw (length-replicate i byte, e, place_is, x-is)))
+
+-- a part that was filled with one byte
+pub run_filled : (out part : List ℕ) (at k byte : ℕ) → at + k ≤ length out → part ≡ replicate (length (take k (drop at out))) byte
+    → take at out ++ (part ++ drop k (drop at out)) ≡ sets out at (replicate k byte)
+run_filled out part at k byte h e =
+    let n = length-replicate k byte in
+    let all : length (take k (drop at out)) ≡ k = length-take-le k (drop at out) (omega (arith, length-drop at out)) in
+    sym (sets-eq (replicate k byte) out at (omega (arith, n)) ∙ rw (n, append_assoc, e, all, drop-drop k at out))
 
 -- ---- a row of dots
 

@@ -1,6 +1,6 @@
 -- `read_all`: what a turn reads goes on from what came before it.
-use Rattle.std.proofs.Common.{◌≡◌, ℕ, ◌+◌, ◌-◌, ◌≤◌, List, ◌++◌, rules, length, take, drop, sym, ap, ◌∙◌, subst, le_refl, drop_at}
-use Rattle.std.proofs.Common.{length-take-le}
+use Rattle.std.proofs.Common.{◌≡◌, ℕ, ◌+◌, ◌-◌, ◌≤◌, List, ◌++◌, length, take, drop, sym, ap, ◌∙◌, subst, le_refl, drop_at}
+use Rattle.std.proofs.Common.{length-take-le, arith}
 use Rattle.std.proofs.lemmas.Slice.{take-put_mid_below}
 use Rattle.std.specs.Io.KnownBytes.{Consumes}
 use Rattle.std.proofs.KnownBytes.{Consumes-trans}
@@ -20,9 +20,10 @@ reached a k n xs ys within fits =
 
 pub loop-at-preserved : goal.loop-at-preserved
 loop-at-preserved g c =
-    let joined = reached c.loop-at.at (length c.loop-at.input - c.loop-at.at) c.in-Bytes.n c.loop-at.input
-    c.read_once-came.new.rest c.loop-at.invariant.0 (search rules) in (
-      search rules,
-      search rules,
-      subst (Consumes _ _) (sym joined) (Consumes-trans _ _ _ _ _ c.loop-at.invariant.2 c.in-Bytes.ensures.bytes),
-    )
+    let k = length c.loop-at.input - c.loop-at.at in
+    let fits = c.in_ok-n.ensures.bound.0 in
+    let joined = reached c.loop-at.at k c.in_ok-n.n c.loop-at.input c.read.new.buf c.loop-at.invariant.within fits in
+    record {
+      within = omega (arith, fits);
+      came = subst (Consumes _ _) (sym joined) (Consumes-trans _ _ _ _ _ c.loop-at.invariant.came c.in_ok-n.ensures.bytes.0);
+    }

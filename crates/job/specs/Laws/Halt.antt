@@ -6,12 +6,11 @@ use Rattle.std.proofs.Common.{inl, inr, ⊎_elim, ap, ◌∙◌, arith, ltb-true
 use Rattle.std.proofs.Math.Option.{Option, some}
 use Rattle.base.specs.Choice.{pick}
 use Rattle.base.specs.Laws.Tests.{impossible, or_cases, neither, when_true, is_true}
-use Rattle.job.specs.declared.Written.{Written}
-use Rattle.job.specs.declared.Written.TheVariants.{Length, Refused}
 use Rattle.job.specs.Job.{Job, blank}
 use Rattle.job.specs.Limits.{most_tasks, most_edges}
 use Rattle.job.specs.Record.{Kind, kind_of, body_length, in_range, added}
 use Rattle.job.specs.Read.{Answer, accepted, refused, records, read_job}
+use Rattle.job.specs.Write.{Written, Length, Refused}
 use Rattle.job.specs.Write.{room_for, is_too_many}
 use Rattle.job.specs.Cause.{Cause, ReaderNumber, Untroubled, Reached, start, next}
 use Rattle.job.specs.Cause.{cut, unknown, misplaced, out_of_range, too_many, bad_ends, not_above, bytes_after, not_due, too_early}

@@ -11,6 +11,8 @@ use Rattle.job.specs.Record.{Kind, rack, step, link, end, wire, result, kind_of,
 use Rattle.job.specs.Record.{wire_in, result_in, joins, above_last, pairs_due, is_due, too_early_number, may_deliver, misfit, added}
 use Rattle.job.specs.Read.{Answer, refused, refused_or, after, judged, records}
 use Rattle.job.specs.Cause.{Cause, bad_ends, not_above, not_due, too_early, not_deliverable}
+use Rattle.job.specs.declared.table.Refusal.{Refusal}
+use Rattle.job.specs.Table.{number_of, is_trouble}
 use Rattle.job.specs.Pass.{first_of}
 
 -- the bytes of a judged body are passed over
@@ -63,9 +65,12 @@ pub ranged_in : (t : Bool) {n y : ℕ} (x : ℕ) → n ≡ pick (not t) 4 0 → 
 ranged_in true x e z d = d
 ranged_in false x e z d = let n : ⊥ = omega arith in absurd n
 
--- where there is trouble, what holds without it is not asked for
-pub troubled : (n : ℕ) {A : Type 0} → suc n ≡ 0 → A
-troubled n e = let z : ⊥ = omega arith in absurd z
+-- the same of what was judged
+pub ranged_err : (t : Bool) (e : Refusal) (x : ℕ) → number_of e ≡ pick (not t) 4 0 → number_of e ≡ pick (not t) 4 x
+ranged_err t e x h = ranged_out t x h (is_trouble e)
+
+pub ranged_ok : (t : Bool) (n y x : ℕ) → n ≡ pick (not t) 4 0 → n ≡ 0 → y ≡ x → y ≡ pick (not t) 4 x
+ranged_ok t n y x h z d = ranged_in t x h z d
 
 -- the trouble of a record that is whole: 4, its misfit, or 0
 abbrev pub trouble : Job → Kind → List ℕ → ℕ

@@ -12,11 +12,11 @@ use Rattle.base.specs.Laws.Tests.{impossible, when_true, when_false}
 use Rattle.base.specs.Laws.Values.{length-values, each_value}
 use Rattle.job.specs.declared.Arrays.{Arrays}
 use Rattle.job.specs.declared.Platform.{Platform}
-use Rattle.job.specs.declared.Written.TheVariants.{Refused}
 use Rattle.job.specs.Job.{Edge, Wire, Result, RiseByTask, ends, Job, blank, with_rack, with_wires, with_tasks, with_edges}
 use Rattle.job.specs.Record.{kind_of, empty, stands, platform_in_range, duration_in_range, count_in_range, cost_in_range, joins}
 use Rattle.job.specs.Record.{wire_pairs, too_early_number, has_successor, past_results}
 use Rattle.job.specs.Read.{accepted, refused, refused_or, judged, records, read_job}
+use Rattle.job.specs.Write.{Refused}
 use Rattle.job.specs.Write.{wire_bytes, step_bytes, link_bytes, result_bytes, file_of, edge_held, held_job, Held, room_for, is_too_many}
 use Rattle.job.specs.Write.{write_answer, WriterNumber}
 use Rattle.job.specs.Pass.{edge, key, first_of, platform_trouble, cost_trouble, step_trouble, link_trouble, wires_trouble, steps_trouble}

@@ -9,11 +9,11 @@ use Rattle.base.specs.Laws.Tests.{impossible}
 use Rattle.base.specs.Laws.Number.{bytes_number}
 use Rattle.base.specs.Laws.Stored.{flat_append}
 use Rattle.job.specs.declared.Platform.{Platform}
-use Rattle.job.specs.declared.Written.TheVariants.{Length}
 use Rattle.job.specs.Job.{Edge, Wire, Result, ends, Job, blank, with_wires, with_tasks, with_edges, job_with_results}
 use Rattle.job.specs.Record.{Kind, rack, step, link, end, wire, result, body_length, no_rack, stands, in_range, added, platform_in}
 use Rattle.job.specs.Record.{duration_in, edge_in, wire_in, result_in, wire_pairs}
 use Rattle.job.specs.Read.{Answer, accepted, read_job}
+use Rattle.job.specs.Write.{Length}
 use Rattle.job.specs.Write.{rack_bytes, wire_bytes, step_bytes, link_bytes, result_bytes, file_of, greatest_length, room_for, is_too_many}
 use Rattle.job.specs.Write.{write_answer, write_out}
 use Rattle.job.specs.Cause.{Untroubled}

@@ -1,8 +1,8 @@
 -- The pairs of processors in their order (`due_from`: those that are still to come), and wires in an array of sixteen rows of sixteen.
 -- The pairs rise by 16 p + q, so that no pair has two wires, and the wire that is found first is the only one.
 use Rattle.std.specs.Prelude.{◌≡◌, refl, ◌⊎◌, Bool, true, false, not, ◌&&◌, ℕ, zero, suc, ◌+◌, ◌*◌, ◌-◌, ◌/◌, ◌%◌, ◌≤◌, ◌<◌, ltb, eqb}
-use Rattle.std.specs.Prelude.{length, get_or, set}
-use Rattle.std.proofs.Common.{ap, sym, ◌∙◌, inl, inr, ⊎_elim, suc-mul, mul-le-mul, add-one, arith, lt→ltb, eqb→eq, length-append}
+use Rattle.std.specs.Prelude.{length, get_or, set, Option, Some, None, IfSome, is_some}
+use Rattle.std.proofs.Common.{ap, sym, subst, ◌∙◌, inl, inr, ⊎_elim, suc-mul, mul-le-mul, add-one, arith, lt→ltb, eqb→eq, length-append}
 use Rattle.std.proofs.Common.{length-set, get_or-set_same, get_or-set_other, ext_get_or}
 use mathlib.Core.List.{List, [], ◌∷◌, ◌++◌, map, flat_map}
 use Rattle.std.proofs.Math.Dec.{eqb_refl}
@@ -14,11 +14,15 @@ use Rattle.base.specs.Laws.Tests.{is_true, is_false, same_or_not, lt_or_ge}
 use Rattle.base.specs.Laws.Values.{upto-values, values_front, values_none, value_at, length-values}
 use Rattle.job.specs.declared.Platform.{Platform}
 use Rattle.job.specs.declared.record.Pair.{Pair}
+use Rattle.job.specs.declared.table.Refusal.{Refusal}
+use Rattle.job.specs.Table.{number_of}
 use Rattle.job.specs.Job.{Wire, ends, wire_cost}
-use Rattle.job.specs.Record.{pairs, wire_pairs}
+use Rattle.job.specs.Record.{empty, pairs, wire_pairs, is_due, cost_in_range}
 use Rattle.job.specs.Read.{wire_array}
 use Rattle.job.specs.Write.{wire_held}
-use Rattle.job.specs.Pass.{wire_of, row_from, due_from, OnPair, PairAfter}
+use Rattle.job.specs.Pass.{wire_of, row_from, due_from, OnPair, PairAfter, pairs_from}
+use Rattle.job.specs.Pass.{cost_trouble, wire_trouble}
+use Rattle.job.specs.Laws.Judged.{ranged_in, ranged_err}
 
 -- ---- the pairs that are still to come
 
@@ -72,26 +76,80 @@ past_itself n p = rw add-one (go (lt_or_ge p n))
     go (inl h) = rw (due_row n p p h, due_row n p (suc p) h, row_front n p p h, is_true (eqb p p) (eqb_refl p)) refl
     go (inr h) = none_due n p p h ∙ sym (none_due n p (suc p) h)
 
-pub due_pair : (n p q : ℕ) → OnPair n p q → p < n → due_from n p q ≡ (p, q) ∷ due_from n p (q + 1)
-due_pair n p q o h =
-    let t = ne→neqb p q (o.different h) in
-    let e = row_front n p q (o.below h) ∙ pick_yes (not (eqb p q)) ((p, q) ∷ row_from n p (suc q)) (row_from n p (suc q)) t in
-    rw (due_row n p q h, add-one, due_row n p (suc q) h, e) refl
+pub due_pair : (n : ℕ) (x : Pair) → OnPair n x → due_from n x.from x.to ≡ (x.from, x.to) ∷ due_from n x.from (x.to + 1)
+due_pair n x o =
+    let p = x.from in
+    let q = x.to in
+    let t = ne→neqb p q o.different in
+    let e = row_front n p q o.to_below ∙ pick_yes (not (eqb p q)) ((p, q) ∷ row_from n p (suc q)) (row_from n p (suc q)) t in
+    rw (due_row n p q o.from_below, add-one, due_row n p (suc q) o.from_below, e) refl
+
+same_pair : (x y : Pair) → x.from ≡ y.from → x.to ≡ y.to → y ≡ x
+same_pair x y e f =
+    let g : ℕ → Pair = λ n. record { from = n; to = y.to } in
+    let h : ℕ → Pair = λ n. record { from = x.from; to = n } in
+    ap g (sym e) ∙ ap h (sym f)
+
+-- the next pair, where there is one
+pub next_on : (n : ℕ) (due : Option Pair) (x : Pair) → IfSome due (OnPair n) → due ≡ Some x → OnPair n x
+next_on n due x o e = let P : Option Pair → Type 0 = λ d. IfSome d (OnPair n) in subst P e o
+
+pub one_next : (due : Option Pair) → is_some due ≡ true → due ≡ None → ⊥
+one_next None h e = cc
+one_next (Some x) h e = cc
+
+pub none_next : (due : Option Pair) → is_some due ≡ false → due ≡ None
+none_next None h = refl
+none_next (Some x) h = cc
+
+-- a wire whose cost is out of its range
+pub bad_cost : (due : List (ℕ × ℕ)) (w : Wire) (e : Refusal) → number_of e ≡ cost_trouble w.cost → number_of e ≡ wire_trouble due w
+unfolding cost_trouble wire_trouble
+bad_cost due w e = ranged_err (cost_in_range w.cost) e _
+
+-- a wire whose cost is in its range is the next one due, or it is not
+module _ (n : ℕ) (due : Option Pair) (x : Pair) (c : ℕ) (on : IfSome due (OnPair n)) (in_range : 0 ≡ cost_trouble c) where
+  pub is_next : due ≡ Some x → 0 ≡ wire_trouble (pairs_from n due) (wire_of x.from x.to c)
+  unfolding cost_trouble wire_trouble is_due
+  is_next e =
+      let o = next_on n due x on e in
+      ranged_in (cost_in_range c) _ in_range refl
+      (rw (e, due_pair n x o, is_true (eqb x.from x.from) (eqb_refl x.from), is_true (eqb x.to x.to) (eqb_refl x.to)) refl)
+
+  pub is_not_next : (due ≡ Some x → ⊥) → 14 ≡ wire_trouble (pairs_from n due) (wire_of x.from x.to c)
+  unfolding cost_trouble wire_trouble is_due
+  is_not_next d = ranged_in (cost_in_range c) _ in_range refl (rw (other due on d) refl)
+    where
+      other : (due : Option Pair) → IfSome due (OnPair n) → (due ≡ Some x → ⊥)
+          → is_due (pairs_from n due) (wire_of x.from x.to c) ≡ false
+      other None o d = refl
+      other (Some y) o d =
+          rw (due_pair n y o) (is_false (eqb x.from y.from && eqb x.to y.to) (λ t.
+          let s = parts (eqb x.from y.from) (eqb x.to y.to) t in
+          d (ap Some (same_pair x y (eqb→eq x.from y.from s.0) (eqb→eq x.to y.to s.1)))))
 
 pub next_row : (n p q : ℕ) → n ≤ q → p < n → due_from n p q ≡ due_from n (p + 1) 0
 next_row n p q h k = rw (due_row n p q k, row_none n p q h, add-one) (sym (from_row n (suc p)))
 
 -- a loop over all pairs: the first one, and the one after another
-pub first_pair : (n : ℕ) (r : Pair) → PairAfter n record { from = 0; to = 0 } r → due_from n r.from r.to ≡ pairs n
+pub first_pair : (n : ℕ) (r : Option Pair) → PairAfter n record { from = 0; to = 0 } r → pairs_from n r ≡ pairs n
 first_pair n r a = a.left ∙ sym (past_itself n 0) ∙ first_due n
 
-pub pair_turn : (n : ℕ) (x r : Pair) → OnPair n x.from x.to → x.from < n → PairAfter n x r
-    → due_from n x.from x.to ≡ (x.from, x.to) ∷ due_from n r.from r.to
-pair_turn n x r o h a = due_pair n x.from x.to o h ∙ rw a.left refl
+pub pair_turn : (n : ℕ) (x : Pair) (r : Option Pair) → OnPair n x → PairAfter n x r
+    → due_from n x.from x.to ≡ (x.from, x.to) ∷ pairs_from n r
+pair_turn n x r o a = due_pair n x o ∙ rw a.left refl
 
-pub pairs_fewer : (n : ℕ) (x r : Pair) → OnPair n x.from x.to → x.from < n → PairAfter n x r
-    → length (due_from n r.from r.to) < length (due_from n x.from x.to)
-pairs_fewer n x r o h a = rw (pair_turn n x r o h a) (omega arith)
+pub pairs_fewer : (n : ℕ) (x : Pair) (r : Option Pair) → OnPair n x → PairAfter n x r
+    → length (pairs_from n r) < length (due_from n x.from x.to)
+pairs_fewer n x r o a = rw (pair_turn n x r o a) (omega arith)
+
+pub one_due : (n : ℕ) (r : Option Pair) → IfSome r (OnPair n) → (r ≡ None → ⊥) → pick {A = ℕ} (not (empty (pairs_from n r))) 14 0 ≡ 14
+one_due n None on d = absurd (d refl)
+one_due n (Some x) on d = rw (due_pair n x on) refl
+
+pub no_pair : (r : Option Pair) → ((x : Pair) → r ≡ Some x → ⊥) → r ≡ None
+no_pair None d = refl
+no_pair (Some x) d = absurd (d x refl)
 
 -- of the numbers from i to before i + k those that are not p: all, or all but one
 all_others : (p i k : ℕ) → p < i → length (filter (λ y. not (eqb p y)) (values (λ j. j) i k)) ≡ k

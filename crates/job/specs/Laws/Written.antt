@@ -5,9 +5,9 @@ use mathlib.Core.List.{List, flat_map}
 use Rattle.base.specs.Choice.{pick}
 use Rattle.base.specs.Laws.Tests.{impossible, when_false}
 use Rattle.base.specs.Laws.Stored.{flat_size}
-use Rattle.job.specs.declared.Written.TheVariants.{Length, Refused}
 use Rattle.job.specs.Job.{Job}
 use Rattle.job.specs.Read.{Answer, accepted, refused, read_job}
+use Rattle.job.specs.Write.{Length, Refused}
 use Rattle.job.specs.Write.{rack_bytes, wire_bytes, step_bytes, link_bytes, result_bytes, file_of, room_for, is_too_many, write_answer}
 use Rattle.job.specs.Write.{write_out}
 use Rattle.job.specs.Pass.{job_trouble}

@@ -11,8 +11,7 @@ use Rattle.etf.specs.OfJob.{instance, TieRule}
 use Rattle.etf.proofs.Jobs.{by_number}
 use Rattle.etf.proofs.Laws.OfJob.{few}
 use Rattle.schedule.specs.declared.Outcome.{Outcome}
-use Rattle.schedule.specs.declared.Planned.{Planned}
-use Rattle.schedule.specs.declared.Planned.TheVariants.{Plan, Refused}
+use Rattle.schedule.specs.Answers.Planned.{Planned, Plan, Refused}
 use Rattle.schedule.specs.Call.{Call, called, arrival_places}
 use Rattle.schedule.specs.Answered.{accepted_as}
 use Rattle.schedule.specs.Plan.{outcome_by, plan_call_by, plan_call}

@@ -3,7 +3,6 @@ use mathlib.Core.Path.{◌≡◌}
 use mathlib.Core.List.{List}
 use Prim.Native.Nat.{ℕ}
 use native.Mathlib.Omega.{arith}
-use borrow.Author.Rules.{rules}
 use Rattle.base.specs.Slices.{Put}
 use Rattle.base.specs.Laws.Put.{put_then}
 use Rattle.base.specs.Text.{text}
@@ -18,11 +17,8 @@ whole : {a b c d o : List ℕ} {g h i j k : ℕ} (E C L D e c' l' d' : ℕ)
 unfolding figures
 whole E C L D e c' l' d' p q r s w x y z = rw (w, x, y, z) at (put_then p (put_then q (put_then r s)))
 
-pub returns : goal.returns
+pub returns-clause-put : goal.returns-clause-put
 unfolding text
-returns c =
-    record {
-      put = whole _ _ _ _ _ _ _ _ c.line-second.ensures.put c.line-third.ensures.put c.line-fourth.ensures.put
-          c.line.ensures.put (omega arith) (omega arith) (omega arith) (omega arith);
-      upper_bound = search rules;
-    }
+returns-clause-put c =
+    whole _ _ _ _ _ _ _ _ c.line-second.ensures.put c.line-third.ensures.put c.line-fourth.ensures.put
+    c.line.ensures.put (omega arith) (omega arith) (omega arith) (omega arith)

@@ -3,7 +3,6 @@ use mathlib.Core.Path.{◌≡◌, refl}
 use mathlib.Core.List.{List}
 use Prim.Native.Nat.{ℕ}
 use native.Mathlib.Omega.{arith}
-use borrow.Author.Rules.{rules}
 use Rattle.base.specs.Slices.{Put}
 use Rattle.base.specs.Laws.Put.{put_then}
 use Rattle.base.specs.Text.{text, space, line_feed}
@@ -17,12 +16,9 @@ whole : {a b c d e : List ℕ} {i j k l m : ℕ} (word : List ℕ) (n t s n' t' 
 unfolding header
 whole word n t s n' t' s' w p q r u x y z = rw (w, x, y, z) at (put_then p (put_then q (put_then r u)))
 
-pub returns : goal.returns
+pub returns-clause-put : goal.returns-clause-put
 unfolding text
-returns c =
-    record {
-      put = whole _ _ _ _ _ _ _ refl c.word-first.ensures
-          c.field-second.ensures.put c.field-third.ensures.put c.field.ensures.put
-          (omega (arith, c.wide8.ensures)) (omega arith) (omega arith);
-      upper_bound = search rules;
-    }
+returns-clause-put c =
+    whole _ _ _ _ _ _ _ refl c.word-first.ensures
+    c.field-second.ensures.put c.field-third.ensures.put c.field.ensures.put
+    (omega (arith, c.from.ensures)) (omega arith) (omega arith)

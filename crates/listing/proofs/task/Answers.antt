@@ -1,7 +1,6 @@
 -- `task`: four fields, one after the other.
 use mathlib.Core.List.{List}
 use Prim.Native.Nat.{ℕ}
-use borrow.Author.Rules.{rules}
 use Rattle.base.specs.Slices.{Put}
 use Rattle.base.specs.Laws.Put.{put_then}
 use Rattle.base.specs.Text.{space, line_feed}
@@ -14,10 +13,6 @@ whole : {a b c d e : List ℕ} {i j k l m : ℕ} (T P start finish : ℕ) → Pu
 unfolding task_line
 whole T P start finish p q r s = put_then p (put_then q (put_then r s))
 
-pub returns : goal.returns
-returns c =
-    record {
-      put = whole _ _ _ _ c.field-second.ensures.put c.field-third.ensures.put c.field-fourth.ensures.put
-          c.field.ensures.put;
-      upper_bound = search rules;
-    }
+pub returns-clause-put : goal.returns-clause-put
+returns-clause-put c =
+    whole _ _ _ _ c.field-second.ensures.put c.field-third.ensures.put c.field-fourth.ensures.put c.field.ensures.put

@@ -1,5 +1,5 @@
 -- A listing is whole: a refused file's line, or header, lines and figures of the plan that planner and cover call leave and report.
-use Rattle.std.specs.Prelude.{◌≡◌, refl, ℕ, ◌+◌, ◌≤◌, ◌<◌, drop}
+use Rattle.std.specs.Prelude.{◌≡◌, refl, ℕ, ◌+◌, ◌≤◌, ◌<◌, drop, Result, Ok, Err}
 use Rattle.std.proofs.Math.Path.{ap}
 use Rattle.std.proofs.Common.{sym, ◌∙◌, zero-add}
 use mathlib.Core.List.{List, ◌++◌}
@@ -13,6 +13,7 @@ use Rattle.base.specs.Laws.Put.{put_then}
 use Rattle.base.specs.Text.{text}
 use Rattle.job.specs.declared.Reading.{Reading}
 use Rattle.job.specs.declared.Verdict.TheVariants.{Counts, Refused}
+use Rattle.job.specs.declared.table.Refusal.{Refusal}
 use Rattle.job.specs.Limits.{most_tasks, most_edges}
 use Rattle.job.specs.Job.{Job}
 use Rattle.job.specs.Read.{accepted, read_job, reading_of, verdict_number}
@@ -23,18 +24,16 @@ use Rattle.etf.specs.Rule.{planned}
 use Rattle.etf.specs.OfJob.{instance}
 use Rattle.etf.proofs.Jobs.{by_number, well_formed, no_finish_passes}
 use Rattle.etf.proofs.Laws.Planned.{home}
-use Rattle.schedule.specs.declared.Planned.{Planned}
-use Rattle.schedule.specs.declared.Planned.TheVariants.{Plan, Refused as NotPlanned}
+use Rattle.schedule.specs.declared.Outcome.{Outcome}
 use Rattle.schedule.specs.declared.Figures.{Figures}
-use Rattle.schedule.specs.declared.Covered.{Covered}
-use Rattle.schedule.specs.declared.Covered.TheVariants.{Cover, Refused as NotCovered}
+use Rattle.schedule.specs.Answers.Planned.{Plan, Refused as NotPlanned, as_planned}
+use Rattle.schedule.specs.Answers.Covered.{Cover, Refused as NotCovered, as_covered}
 use Rattle.schedule.specs.Call.{called, start_of, processor_of, arrival_places}
 use Rattle.schedule.specs.Plan.{end_of, outcome, outcome_by, plan_call, plan_call_by}
 use Rattle.schedule.specs.Cover.{figures as figures_of, cover_call, cover_call_by}
 use Rattle.listing.specs.Listing.{line, header, task_lines, figures, plan_listing, refusal_line, listing_for, listing}
 use Rattle.listing.specs.Listing.{ListingCall, listed, put_first, listing_call}
 use Rattle.listing.specs.Printed.{refused_text}
-use Rattle.listing.specs.Pass.{end_in, figures_in}
 use Rattle.listing.specs.Laws.Calls.{LaidOut, lays_out}
 
 -- ---- the same numbers, the same text
@@ -71,10 +70,10 @@ refusal_put p e h = put_front (rw e at p) h
 
 -- ---- a refused file
 
-pub refused_listed : (file out : List ℕ) {x : Reading} {k n : ℕ} {c : ListingCall} → x ≡ reading_of (read_job file)
+pub refused_listed : (file out : List ℕ) {x : Reading} {k : Refusal} {n : ℕ} {c : ListingCall} → x ≡ reading_of (read_job file)
     → x.verdict ≡ Refused k → n ≡ verdict_number x.verdict → c ≡ put_first (refusal_line n) out → c ≡ listing_call file out
 refused_listed file out e v g h =
-    let says = refused_is (read_job file) (ap (λ (y : Reading). y.verdict) (sym e) ∙ v) in
+    let says = refused_is file (ap (λ (y : Reading). y.verdict) (sym e) ∙ v) in
     h ∙ (ap (λ (i : ℕ). put_first (refusal_line i) out) (g ∙ ap verdict_number v) ∙ refused_text file out _ says)
 
 -- ---- an accepted file
@@ -122,60 +121,73 @@ module _ (file : List ℕ) {x : Reading} {m l : ℕ} (e : x ≡ reading_of (read
   unfolding instance reading_of
   header_is = header_same (ap (λ (y : Reading). y.platform.processors) reading_is) (sym tasks_are) (sym edges_are)
 
-  -- the planner's call, and then the cover call on the same slices
-  module _ {q : Planned} {c : Covered} (s₀ p₀ t₀ : List ℕ) {s₁ p₁ t₁ s p t : List ℕ}
+  -- the planner's call
+  module _ (q : Result Outcome Refusal) (s₀ p₀ t₀ : List ℕ) {s₁ p₁ t₁ : List ℕ}
       (a : length s₀ ≡ most_tasks) (b : length p₀ ≡ most_tasks) (d : length t₀ ≡ arrival_places)
-      (plans : called q s₁ p₁ t₁ ≡ plan_call file s₀ p₀ t₀) (covers : called c s p t ≡ cover_call file s₁ p₁ t₁) where
-    by_planner : LaidOut (λ j. Plan (outcome j)) job q s₁ p₁ t₁
+      (plans : called (as_planned q) s₁ p₁ t₁ ≡ plan_call file s₀ p₀ t₀) where
+    by_planner : LaidOut (λ j. Plan (outcome j)) job (as_planned q) s₁ p₁ t₁
     unfolding plan_call_by
     by_planner =
         lays_out NotPlanned (λ j. Plan (outcome j)) file job says (record { for_starts = a; for_processors = b; for_arrivals = d }) plans
 
-    by_cover : LaidOut (λ j. Cover (figures_of (instance j))) job c s p t
-    unfolding cover_call_by
-    by_cover = lays_out NotCovered (λ j. Cover (figures_of (instance j))) file job says by_planner.room covers
+    -- it does not refuse
+    pub plans_all : {e : Refusal} → q ≡ Err e → ⊥
+    plans_all is = let z = ap as_planned is in let w = by_planner.answer_is in cc
 
-    -- the arrays that the lines are read from are long enough
-    pub arrays_reach : (m ≤ length x.arrays.durations) × (m ≤ length s) × (m ≤ length p)
-    arrays_reach = (
-      omega (arith, few_tasks, durations_size),
-      omega (arith, few_tasks, by_cover.room.for_starts),
-      omega (arith, few_tasks, by_cover.room.for_processors),
-    )
-
-    end_is : end_in q ≡ end_of job
+    end_is : {o : Outcome} → q ≡ Ok o → o.end ≡ end_of job
     unfolding outcome_by
-    end_is = ap end_in by_planner.answer_is
+    end_is {o} is =
+        let z = ap as_planned is in
+        let w = by_planner.answer_is in
+        let e : o ≡ outcome job = cc in ap (λ (y : Outcome). y.end) e
 
-    figures_are : figures_in c ≡ figures_of I
-    figures_are = ap figures_in by_cover.answer_is
+    -- the cover call on the same slices
+    module _ (c : Result Figures Refusal) {s p t : List ℕ} (covers : called (as_covered c) s p t ≡ cover_call file s₁ p₁ t₁) where
+      by_cover : LaidOut (λ j. Cover (figures_of (instance j))) job (as_covered c) s p t
+      unfolding cover_call_by
+      by_cover = lays_out NotCovered (λ j. Cover (figures_of (instance j))) file job says by_planner.room covers
 
-    -- a finish has 32 bits
-    pub finish_fits : (T : ℕ) → T < m → get_or s T 0 + get_or x.arrays.durations T 0 < 4294967296
-    unfolding start_of instance
-    finish_fits T k =
-        let b : T < length job.tasks = omega (arith, tasks_are) in
-        let at_home = home I (well_formed by_number job sound) T b in
-        omega (
-          arith,
-          by_cover.start_at_lem T b,
-          duration_at T,
-          no_finish_passes by_number job sound (placement_of (planned I) T) at_home.0,
-          ap (duration I) at_home.1,
-        )
+      -- it does not refuse
+      pub covers_all : {e : Refusal} → c ≡ Err e → ⊥
+      covers_all is = let z = ap as_covered is in let w = by_cover.answer_is in cc
 
-    lines_are : task_lines m (λ T. get_or p T 0) (λ T. get_or s T 0) (λ T. get_or x.arrays.durations T 0)
-        ≡ task_lines (tasks I) (processor_of I) (start_of I) (duration I)
-    unfolding instance
-    lines_are = lines_same _ _ _ _ _ _ (sym tasks_are) by_cover.processor_at_lem by_cover.start_at_lem (λ T k. duration_at T)
+      figures_are : {f : Figures} → c ≡ Ok f → f ≡ figures_of I
+      figures_are is = let z = ap as_covered is in let w = by_cover.answer_is in cc
 
-    pub plan_listed : {out o₁ o₂ o₃ : List ℕ} {i j k : ℕ} (E : ℕ) (f : Figures)
-        → Put out o₁ 0 i (header x.platform.processors m l)
-        → Put o₁ o₂ i j (task_lines m (λ T. get_or p T 0) (λ T. get_or s T 0) (λ T. get_or x.arrays.durations T 0))
-        → Put o₂ o₃ j k (figures E f.cover f.least f.dearest)
-        → E ≡ end_in q → f ≡ figures_in c → k ≤ length out → listed k o₃ ≡ listing_call file out
-    unfolding listing_call listing listing_for plan_listing figures_of
-    plan_listed {out = out} E f first second third e-is f-is fits =
-        put_front (put_then first (put_then second third)) fits
-        ∙ ap (λ (s : List ℕ). put_first s out)
-        (listing_same header_is lines_are (e-is ∙ end_is) (f-is ∙ figures_are) ∙ ap listing_for (sym says))
+      -- the arrays that the lines are read from are long enough
+      pub arrays_reach : (m ≤ length x.arrays.durations) × (m ≤ length s) × (m ≤ length p)
+      arrays_reach = (
+        omega (arith, few_tasks, durations_size),
+        omega (arith, few_tasks, by_cover.room.for_starts),
+        omega (arith, few_tasks, by_cover.room.for_processors),
+      )
+
+      -- a finish has 32 bits
+      pub finish_fits : (T : ℕ) → T < m → get_or s T 0 + get_or x.arrays.durations T 0 < 4294967296
+      unfolding start_of instance
+      finish_fits T k =
+          let b : T < length job.tasks = omega (arith, tasks_are) in
+          let at_home = home I (well_formed by_number job sound) T b in
+          omega (
+            arith,
+            by_cover.start_at_lem T b,
+            duration_at T,
+            no_finish_passes by_number job sound (placement_of (planned I) T) at_home.0,
+            ap (duration I) at_home.1,
+          )
+
+      lines_are : task_lines m (λ T. get_or p T 0) (λ T. get_or s T 0) (λ T. get_or x.arrays.durations T 0)
+          ≡ task_lines (tasks I) (processor_of I) (start_of I) (duration I)
+      unfolding instance
+      lines_are = lines_same _ _ _ _ _ _ (sym tasks_are) by_cover.processor_at_lem by_cover.start_at_lem (λ T k. duration_at T)
+
+      pub plan_listed : {out o₁ o₂ o₃ : List ℕ} {i j k : ℕ} {o : Outcome} {f : Figures} → q ≡ Ok o → c ≡ Ok f
+          → Put out o₁ 0 i (header x.platform.processors m l)
+          → Put o₁ o₂ i j (task_lines m (λ T. get_or p T 0) (λ T. get_or s T 0) (λ T. get_or x.arrays.durations T 0))
+          → Put o₂ o₃ j k (figures o.end f.cover f.least f.dearest)
+          → k ≤ length out → listed k o₃ ≡ listing_call file out
+      unfolding listing_call listing listing_for plan_listing figures_of
+      plan_listed {out = out} o-is f-is first second third fits =
+          put_front (put_then first (put_then second third)) fits
+          ∙ ap (λ (s : List ℕ). put_first s out)
+          (listing_same header_is lines_are (end_is o-is) (figures_are f-is) ∙ ap listing_for (sym says))

@@ -1,32 +1,28 @@
 -- Texts put one after the other are the text of them all.
-use Rattle.std.specs.Prelude.{◌≡◌, refl, length, get_or, take, set}
+use Rattle.std.specs.Prelude.{◌≡◌, refl, length, take}
 use Rattle.std.proofs.Math.Path.{ap, sym}
-use Rattle.std.proofs.Common.{◌∙◌, take-suc, take_all, length-take-le}
+use Rattle.std.proofs.Common.{◌∙◌, append_assoc}
 use mathlib.Core.List.{List, [], ◌∷◌, ◌++◌, flat_map, append-nil}
-use Prim.Native.Nat.{ℕ, suc, ◌+◌, ◌<◌}
+use Prim.Native.Nat.{ℕ, suc, ◌+◌, ◌-◌, ◌≤◌}
 use native.Mathlib.Omega.{arith}
-use Rattle.std.proofs.lemmas.List.Edits.{sets}
+use Rattle.std.proofs.lemmas.List.Edits.{sets-eq}
+use borrow.Rule.Slice.PartMut.{put_mid, Post-is}
 use Rattle.base.specs.Lists.{upto}
 use Rattle.base.specs.Slices.{Put}
 use Rattle.base.specs.Laws.Put.{put_then}
-use Rattle.base.specs.Laws.Stored.{sets-append, flat_append}
+use Rattle.base.specs.Laws.Stored.{flat_append}
 use Rattle.listing.specs.Listing.{task_line, task_lines}
 
--- one byte of a word more
-pub word_more : (out out' : List ℕ) (at i : ℕ) (bytes : List ℕ) → i < length bytes → out' ≡ sets out at (take i bytes)
-    → set out' (at + i) (get_or bytes i 0) ≡ sets out at (take (i + 1) bytes)
-word_more out out' at i bytes h e =
-    let n : length (take i bytes) ≡ i = length-take-le i bytes (omega arith) in
-    let one : i + 1 ≡ suc i = omega arith in
-    sym (rw (one, take-suc bytes i 0 h)
-    (sets-append out at (take i bytes) (get_or bytes i 0 ∷ []) ∙ rw (n, e)))
-
--- the whole word
-pub word_all : (out out' : List ℕ) (at i : ℕ) (bytes : List ℕ) → i ≡ length bytes → out' ≡ sets out at (take i bytes)
-    → Put out out' at (at + i) bytes
-word_all out out' at i bytes h e = record {
-  stored = e ∙ ap (sets out at) (take_all i bytes (omega (arith, h)));
-  past = omega (arith, h);
+-- bytes copied to a part of the buffer are put there
+pub copied : (out : List ℕ) (at : ℕ) (bytes : List ℕ) {part : List ℕ} → at + length bytes ≤ length out → part ≡ bytes
+    → Put out (put_mid at (at + length bytes - at) out part) at (at + length bytes) bytes
+copied out at bytes {part} fits same = record {
+  stored =
+      ap (put_mid at (at + length bytes - at) out) same
+      ∙ ap (λ (l : List ℕ). take at out ++ (bytes ++ l)) (Post-is at (at + length bytes) out (omega arith))
+      ∙ sym (append_assoc (take at out) bytes _)
+      ∙ sym (sets-eq bytes out at fits);
+  past = refl;
 }
 
 -- the lines of the tasks, one by one

@@ -1,17 +1,18 @@
 -- `check` passes the reader's number on, and else answers what `say` says of the plan for the job's instance.
-use Rattle.schedule.specs.Laws.Reading.{read_as, instance_held, plannable}
+use Rattle.std.proofs.Common.{refl}
+use Rattle.schedule.specs.Laws.Reading.{read_as, plannable, handed_held, handed_tasks}
 use Rattle.schedule.specs.Laws.Calls.{check_passes_on, check_said}
 use Rattle.schedule.proofs.check.Goals as goal
 
 pub returns-in_default : goal.returns-in_default
-returns-in_default c =
-    check_passes_on _ c.read-r.ensures c.in_default.is c.number.ensures _ _
+returns-in_default c = check_passes_on _ c.read-r.ensures c.refusal.ensures _ _
 
-pub say-requires : goal.say-requires
-say-requires c =
-    plannable (read_as c.read-r.ensures c.in-Counts.is) c.index-n.ensures.0 c.square-costs.ensures
+pub instance_of-instance-requires : goal.instance_of-instance-requires
+instance_of-instance-requires c = plannable (read_as c.read-r.ensures c.in-Counts.is) refl c.square-costs.ensures
 
 pub returns : goal.returns
 returns c =
     let read = read_as c.read-r.ensures c.in-Counts.is in
-    check_said read (instance_held read c.index-n.ensures.0 c.square-costs.ensures) _ _ c.say.ensures
+    let H = c.instance_of-instance.result in
+    let is = c.instance_of-instance.ensures in
+    check_said read (handed_held read H is c.square-costs.ensures) (handed_tasks read H is c.square-costs.ensures) _ _ c.say.ensures

@@ -1,13 +1,15 @@
 -- `cover_by` passes the reader's number on, refuses by 9 where `lay_out` finds a slice too short, and else measures what it laid out.
+use Rattle.std.proofs.Common.{refl, ap}
 use Rattle.job.specs.Job.{Job}
 use Rattle.priority.specs.declared.Ties.{Ties}
 use Rattle.priority.specs.Orders.{instance_by, tie_rule}
-use Rattle.schedule.specs.declared.Covered.{Covered}
-use Rattle.schedule.specs.declared.Covered.TheVariants.{Cover, Refused}
+use Rattle.schedule.specs.Answers.Laid.{as_laid}
+use Rattle.schedule.specs.Answers.Covered.{Covered, Cover, Refused}
 use Rattle.schedule.specs.Call.{arrival_places, plan_by}
 use Rattle.schedule.specs.Cover.{figures, cover_call_by}
-use Rattle.schedule.specs.Laws.Ties.{plannable_by, instance_by_lem, held_in}
-use Rattle.schedule.specs.Laws.Reading.{read_as, instance_held, plannable}
+use Rattle.schedule.specs.Handed.{plannable}
+use Rattle.schedule.specs.Laws.Ties.{plannable_by, held_in}
+use Rattle.schedule.specs.Laws.Reading.{read_as, plannable as may_plan, handed_by}
 use Rattle.schedule.specs.Laws.Calls.{passes_on, call_short, call_end, laid_holds, measured_right}
 use Rattle.schedule.proofs.cover_by.Goals as goal
 
@@ -19,39 +21,35 @@ pub returns-in_default : goal.returns-in_default
 unfolding cover_call_by
 returns-in_default c =
     let ties = c.args.ties in
-    passes_on _ c.read-r.ensures c.in_default.is c.number.ensures
+    passes_on _ c.read-r.ensures c.refusal.ensures
     arrival_places Refused (plan_by (instance_by ties) (answer ties)) _ _ _
 
-pub lay_out-laid-requires : goal.lay_out-laid-requires
-lay_out-laid-requires c =
-    let read = read_as c.read-r.ensures c.in-Counts.is in
-    plannable read c.index-n.ensures.0 c.square-costs.ensures
+pub instance_of-instance-requires : goal.instance_of-instance-requires
+instance_of-instance-requires c = may_plan (read_as c.read-r.ensures c.in-Counts.is) refl c.square-costs.ensures
 
-pub returns-in_default-laid : goal.returns-in_default-laid
+pub returns-in_default-lay_out : goal.returns-in_default-lay_out
 unfolding cover_call_by
-returns-in_default-laid c =
+returns-in_default-lay_out c =
     let ties = c.args.ties in
     let read = read_as c.read-r.ensures c.in-Counts.is in
-    let number = plannable read c.index-n.ensures.0 c.square-costs.ensures in
-    let same = instance_by_lem number ties read.job (instance_held read c.index-n.ensures.0 c.square-costs.ensures) in
-    call_short read (tie_rule ties) same Refused (answer ties) _ _ _ c.in_default-laid.is c.lay_out-laid.ensures
+    let same = handed_by read c.instance_of-instance.result c.instance_of-instance.ensures c.square-costs.ensures ties in
+    call_short read (tie_rule ties) same Refused (answer ties) _ _ _ (ap as_laid c.in_default-lay_out.is) c.lay_out.ensures
 
 pub measure-requires : goal.measure-requires
 measure-requires c =
+    let F = plannable c.instance_of-instance.result in
     let ties = c.args.ties in
-    let read = read_as c.read-r.ensures c.in-Counts.is in
-    let number = plannable read c.index-n.ensures.0 c.square-costs.ensures in
-    let given = plannable_by number ties in
-    record { plannable = number; by_index = (_, held_in number ties (laid_holds given _ _ _ c.in-Last.is c.lay_out-laid.ensures)) }
+    (_, held_in F ties (laid_holds (plannable_by F ties) _ _ _ (ap as_laid c.in-Some.is) c.lay_out.ensures))
 
 pub returns : goal.returns
 unfolding cover_call_by
 returns c =
     let ties = c.args.ties in
     let read = read_as c.read-r.ensures c.in-Counts.is in
-    let number = plannable read c.index-n.ensures.0 c.square-costs.ensures in
-    let same = instance_by_lem number ties read.job (instance_held read c.index-n.ensures.0 c.square-costs.ensures) in
-    let given = plannable_by number ties in
-    let holds = held_in number ties (laid_holds given _ _ _ c.in-Last.is c.lay_out-laid.ensures) in
-    call_end read (tie_rule ties) same Refused (answer ties) _ _ _ c.in-Last.is c.lay_out-laid.ensures
+    let H = c.instance_of-instance.result in
+    let F = plannable H in
+    let same = handed_by read H c.instance_of-instance.ensures c.square-costs.ensures ties in
+    let laid = ap as_laid c.in-Some.is in
+    let holds = held_in F ties (laid_holds (plannable_by F ties) _ _ _ laid c.lay_out.ensures) in
+    call_end read (tie_rule ties) same Refused (answer ties) _ _ _ laid c.lay_out.ensures
     (λ e-is. measured_right same (c.measure.ensures _ holds))

@@ -1,23 +1,18 @@
 -- `measure` answers the cover and the least cover that the walks over the short ticks find, and the dearest chain.
-use mathlib.Core.Path.{refl, sym, ◌∙◌}
+use Rattle.std.proofs.Common.{sym, ◌∙◌}
 use Rattle.base.specs.Laws.Lists.{zeros_at}
-use Rattle.schedule.specs.Laws.Held.{edges_there, same_dearest}
-use Rattle.schedule.specs.Laws.Walk.ShortTicks.{scheduled}
+use Rattle.schedule.specs.Laws.Held.{same_dearest}
+use Rattle.schedule.specs.Laws.Walk.ShortTicks.{scheduled, places}
 use Rattle.schedule.specs.Laws.Calls.{measured}
 use Rattle.schedule.proofs.measure.Goals as goal
 
+pub invariant_of-table : goal.invariant_of-table
+invariant_of-table c =
+    let H = c.requires.1 in record { in_place = places H.plannable H.plan }
+
 pub short_ticks-requires : goal.short_ticks-requires
 short_ticks-requires c =
-    let given = c.requires.by_index.1 in
-    let F = given.plannable in
-    record {
-      scheduled = (scheduled F given.plan, (edges_there F).1, F.few_edges);
-      latest_len = (refl {a = 256}, refl {a = 256}, zeros_at 256);
-    }
-
-pub dearest-dearest-requires : goal.dearest-dearest-requires
-dearest-dearest-requires c =
-    record { plannable = c.requires.plannable; cost_value = c.greatest_cost-most.ensures }
+    let H = c.requires.1 in record { apart = (scheduled H.plannable H.plan).apart; none_idle = zeros_at 256 }
 
 pub returns : goal.returns
 returns c order H =

@@ -1,12 +1,12 @@
 -- Each return of an entry is its row of the call's definition: one law for every call on a file and three slices, and the checker's.
-use Rattle.std.specs.Prelude.{Bool, ◌||◌, ◌≡◌, List, ℕ, ◌≤◌, ◌<◌, length}
+use Rattle.std.specs.Prelude.{Bool, ◌||◌, ◌⊎◌, ◌≡◌, List, ℕ, ◌≤◌, ◌<◌, length}
 use Rattle.std.proofs.Math.Bool.{true, false}
-use Rattle.std.proofs.Math.Option.{Option, none, some}
 use Rattle.std.proofs.Math.Path.{refl, ap, subst}
-use Rattle.std.proofs.Common.{sym, ◌∙◌, arith}
+use Rattle.std.proofs.Common.{inl, inr, sym, ◌∙◌, arith}
 use borrow.Author.Tests.{lt-ltb, le-ltb, ltb-false}
 use Rattle.std.proofs.Math.Dec.{ltb}
 use Rattle.std.proofs.Math.ListN.{get_or}
+use Rattle.job.specs.declared.table.Refusal.{Refusal}
 use Rattle.job.specs.declared.Verdict.TheVariants.{Refused}
 use Rattle.base.specs.Choice.{pick}
 use Rattle.base.specs.Slices.{filled}
@@ -14,59 +14,33 @@ use Rattle.base.specs.Laws.Tests.{impossible}
 use Rattle.base.specs.Laws.Filled.{filled-length, filled_at, filled-filled}
 use Rattle.job.specs.declared.Reading.{Reading}
 use Rattle.job.specs.Job.{Job}
-use Rattle.job.specs.Read.{refused, read_job, reading_of, verdict_number}
+use Rattle.job.specs.Read.{refused, read_job, reading_of}
+use Rattle.job.specs.Table.{number_of as table_number}
 use Rattle.etf.specs.Instance.{Instance, tasks}
-use Rattle.etf.specs.Schedule.{schedule_of, end}
+use Rattle.etf.specs.Schedule.{end}
 use Rattle.etf.specs.Cover.{cover}
 use Rattle.etf.specs.Dearest.{dearest}
 use Rattle.etf.specs.Least.{least}
-use Rattle.etf.specs.Checker.{Because, no_processor, too_late, overlaps, too_early}
-use Rattle.etf.proofs.Verdict.{number_only}
 use Rattle.etf.specs.Rule.{planned}
 use Rattle.etf.specs.OfJob.{instance, TieRule, result_of}
 use Rattle.etf.proofs.Jobs.{same_tasks}
-use Rattle.schedule.specs.declared.Checked.{Checked}
-use Rattle.schedule.specs.declared.Judged.{Judged}
-use Rattle.schedule.specs.declared.Checked.TheVariants.{Yes, Refused as NotChecked}
-use Rattle.schedule.specs.declared.Planned.TheVariants.{Plan}
+use Rattle.schedule.specs.Answers.Checked.{Checked, Refused as NotChecked, Judgement}
+use Rattle.schedule.specs.Answers.Planned.{Plan}
 use Rattle.schedule.specs.declared.Figures.{Figures}
-use Rattle.schedule.specs.declared.Covered.TheVariants.{Cover}
-use Rattle.schedule.specs.declared.Laid.{Laid}
-use Rattle.schedule.specs.declared.Laid.TheVariants.{Last, Short}
+use Rattle.schedule.specs.Answers.Covered.{Cover}
+use Rattle.schedule.specs.Answers.Laid.{Laid, Last, Short}
 use Rattle.schedule.specs.InArrays.{InArrays, instance_in, Plannable}
 use Rattle.schedule.specs.Call.{Call, called, start_of, processor_of, scratch_at, arrival_places, laid_out_call, plan_by, is_too_short}
 use Rattle.schedule.specs.Call.{call_for}
 use Rattle.schedule.specs.Plan.{last_of, end_by, outcome_by}
 use Rattle.schedule.specs.Cover.{figures}
-use Rattle.schedule.specs.Check.{check_of, checked_as, number_of, check_for, check_call, judge_call}
+use Rattle.schedule.specs.Check.{check_of, checked_as, check_for, check_call, judge_call}
 use Rattle.schedule.specs.Pass.{said, Room, short_of, run_call, lay_call}
 use Rattle.job.specs.Accepted.{refused_is}
 use Rattle.schedule.specs.CoverPass.{HoldsPlan}
 use Rattle.schedule.specs.Laws.Held.{held_tasks}
 use Rattle.schedule.specs.Laws.Reading.{Read}
 use Rattle.schedule.specs.Laws.Walk.CoverFound.{holds_plan}
-
--- ---- the checker's answer as a number: no refusal has the number 0
-
-never_zero : (J : Instance) (p s : ℕ → ℕ) → check_of J p s ≡ some 0 → ⊥
-unfolding check_of
-never_zero J p s e = go 0 refl (number_only J (schedule_of J p s) 0 e)
-  where
-    go : (k : ℕ) → k ≡ 0 → Because J (schedule_of J p s) k → ⊥
-    go k z (no_processor u h a) = absurd (omega arith)
-    go k z (too_late u h a) = absurd (omega arith)
-    go k z (overlaps u v h i ne e a b) = absurd (omega arith)
-    go k z (too_early e h u v i k' a b d) = absurd (omega arith)
-
-some_number : (o : Option ℕ) (t : ℕ) → number_of o ≡ t → (t ≡ 0 → ⊥) → NotChecked t ≡ checked_as o
-unfolding number_of checked_as
-some_number none t e h = absurd (h (sym e))
-some_number (some k) t e h = ap NotChecked (sym e)
-
-no_number : (o : Option ℕ) → (o ≡ some 0 → ⊥) → number_of o ≡ 0 → Yes ≡ checked_as o
-unfolding number_of checked_as
-no_number none z e = refl
-no_number (some k) z e = absurd (z (ap some e))
 
 -- ---- a plan laid out
 
@@ -171,52 +145,39 @@ measured_right same e = rw (e, same)
 
 -- ---- a refused file: the reader's number is passed on
 
-module _ (file : List ℕ) {x : Reading} (e : x ≡ reading_of (read_job file)) {k n : ℕ}
-    (v : x.verdict ≡ Refused k) (g : n ≡ verdict_number x.verdict) where
-  file_refused : read_job file ≡ refused n
-  file_refused = refused_is (read_job file) (ap (λ (r : Reading). r.verdict) (sym e) ∙ v) ∙ ap refused (sym (g ∙ rw v))
+module _ (file : List ℕ) {x : Reading} (e : x ≡ reading_of (read_job file)) {k : Refusal} (v : x.verdict ≡ Refused k) where
+  file_refused : read_job file ≡ refused (table_number k)
+  file_refused = refused_is file (ap (λ (r : Reading). r.verdict) (sym e) ∙ v)
 
   pub passes_on : {R : Type 0} (places : ℕ) (refuse : ℕ → R) (accept : Job → List ℕ → List ℕ → List ℕ → Call R)
       (starts processors scratch : List ℕ)
-      → called (refuse n) starts processors scratch ≡ call_for places refuse accept (read_job file) starts processors scratch
+      → called (refuse (table_number k)) starts processors scratch
+      ≡ call_for places refuse accept (read_job file) starts processors scratch
   unfolding call_for
   passes_on places refuse accept starts processors scratch = rw file_refused
 
-  pub check_passes_on : (starts processors : List ℕ) → NotChecked n ≡ check_call file starts processors
+  pub check_passes_on : (starts processors : List ℕ) → NotChecked (table_number k) ≡ check_call file starts processors
   unfolding check_call check_for
   check_passes_on starts processors = rw file_refused
 
 -- what was read, and the checker's answer
 pub judged_as : (file starts processors : List ℕ) {x : Reading} {c : Checked} → x ≡ reading_of (read_job file)
-    → c ≡ check_call file starts processors → ◌≡◌ {A = Judged} (record { reading = x; checked = c }) (judge_call file starts processors)
+    → c ≡ check_call file starts processors → ◌≡◌ {A = Judgement} (record { reading = x; checked = c }) (judge_call file starts processors)
 unfolding judge_call
 judged_as file starts processors e h = rw (e, h)
 
 -- ---- what the checker says of the plan in two slices
 
 module _ (H : Instance) (m : ℕ) (starts processors : List ℕ) where
-  pub said_no_starts : length starts < m → NotChecked 9 ≡ said H m starts processors
+  pub said_short : (length starts < m) ⊎ ((m ≤ length starts) × (length processors < m)) → NotChecked 9 ≡ said H m starts processors
   unfolding said
-  said_no_starts h = simp (lt-ltb _ _ h)
+  said_short (inl h) = simp (lt-ltb _ _ h)
+  said_short (inr h) = simp (le-ltb _ _ h.0, lt-ltb _ _ h.1)
 
-  pub said_no_processors : m ≤ length starts → length processors < m → NotChecked 9 ≡ said H m starts processors
+  pub said_checked : {c : Checked} → m ≤ length starts → m ≤ length processors
+      → c ≡ checked_as (check_of H (λ T. get_or processors T 0) (λ T. get_or starts T 0)) → c ≡ said H m starts processors
   unfolding said
-  said_no_processors a h = simp (le-ltb _ _ a, lt-ltb _ _ h)
-
-  module _ {t : ℕ} (a : m ≤ length starts) (b : m ≤ length processors)
-      (g : t ≡ number_of (check_of H (λ T. get_or processors T 0) (λ T. get_or starts T 0))) where
-    abbrev verdict : Option ℕ
-    verdict = check_of H (λ T. get_or processors T 0) (λ T. get_or starts T 0)
-
-    pub said_trouble : (t ≡ 0 → ⊥) → NotChecked t ≡ said H m starts processors
-    unfolding said
-    said_trouble h = simp (le-ltb _ _ a, le-ltb _ _ b) (some_number verdict t (sym g) h)
-
-    pub said_yes : t ≡ 0 → Yes ≡ said H m starts processors
-    unfolding said
-    said_yes h =
-        simp (le-ltb _ _ a, le-ltb _ _ b)
-        (no_number verdict (never_zero H (λ T. get_or processors T 0) (λ T. get_or starts T 0)) (sym g ∙ h))
+  said_checked a b h = simp (le-ltb _ _ a, le-ltb _ _ b) h
 
 -- ---- an accepted file
 
@@ -226,11 +187,11 @@ module _ {file : List ℕ} {x : Reading} {m l : ℕ} (K : Read file x m l) where
   tasks_is = K.tasks_are
 
   -- the checker's answer, by what is said of the plan in the slices
-  pub check_said : {H : Instance} → H ≡ instance K.job → (starts processors : List ℕ) {c : Checked} → c ≡ said H m starts processors
-      → c ≡ check_call file starts processors
+  pub check_said : {H : Instance} {n : ℕ} → H ≡ instance K.job → n ≡ m → (starts processors : List ℕ) {c : Checked}
+      → c ≡ said H n starts processors → c ≡ check_call file starts processors
   unfolding check_call check_for said
-  check_said same starts processors g =
-      g ∙ rw (K.says, same, tasks_is)
+  check_said same few starts processors g =
+      g ∙ rw (K.says, same, few, tasks_is)
 
   -- a planner's call, by any tie rule
   module _ {by : Job → Instance} (rule : TieRule by) where

@@ -1,5 +1,6 @@
 pub mod Simulation
 pub mod Invariant
+pub mod Ends
 pub mod Round
 pub mod Placing
 pub mod StartAndEnd

@@ -21,7 +21,13 @@ use Rattle.etf.specs.Bounds.{most_cost, most_message_time}
 use Rattle.etf.proofs.Laws.Costs.{square_same, cost_same, row_length}
 use Rattle.etf.proofs.Laws.OfJob.{entry_most}
 use Rattle.costs.specs.Wires.{loaded}
+use Rattle.priority.specs.declared.Ties.{Ties}
+use Rattle.priority.specs.Orders.{instance_by}
+use Rattle.schedule.specs.declared.instance.Instance.{Instance as Handed}
 use Rattle.schedule.specs.InArrays.{InArrays, in_number_order, instance_in, Ordering, Plannable}
+use Rattle.schedule.specs.Handed.{in_arrays, read_in_arrays, plannable as can_be_planned}
+use Rattle.schedule.specs.Pass.{tied_by}
+use Rattle.schedule.specs.Laws.Ties.{instance_by_lem}
 
 -- an accepted file: the job, held in the arrays of its reading x
 pub record Read (file : List ℕ) (x : Reading) (m l : ℕ) : Type 0 where
@@ -171,3 +177,18 @@ module _ {file : List ℕ} {x : Reading} {m l : ℕ} (K : Read file x m l) where
       counts_size = K.counts_size;
       row_size = λ p h. rw costs_are (row_length x.platform.processors (cost x.platform (loaded x.arrays.wires)) p h);
     }
+
+  -- the instance of such arrays, as it is handed on
+  module _ (H : Handed) {costs : List (List ℕ)} (is : in_arrays H ≡ read_in_arrays x m l costs)
+      (costs_are : costs ≡ square x.platform.processors (cost x.platform (loaded x.arrays.wires))) where
+    pub handed_held : instance_in (in_arrays H) ≡ instance K.job
+    handed_held = ap instance_in is ∙ instance_held refl costs_are
+
+    pub handed_by : (ties : Ties) → instance_in (tied_by ties (in_arrays H)) ≡ instance_by ties K.job
+    handed_by ties = instance_by_lem (can_be_planned H) ties K.job handed_held
+
+    pub handed_tasks : H.tasks ≡ m
+    handed_tasks = ap (λ (A : InArrays). A.tasks) is
+
+    pub handed_near : (T p : ℕ) → T < 256 → get_or x.arrays.results T 0 * entry H.costs.now p 0 ≤ most_message_time
+    handed_near T p h = rw (ap (λ (A : InArrays). A.costs) is) (near_gate refl costs_are T p h)

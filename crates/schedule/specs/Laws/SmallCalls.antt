@@ -11,10 +11,8 @@ use Rattle.base.specs.Laws.Filled.{filled-length, filled_at, filled_past, filled
 use Rattle.job.specs.declared.Reading.{Reading}
 use Rattle.etf.specs.Instance.{Instance, tasks}
 use Rattle.etf.specs.OfJob.{instance}
-use Rattle.schedule.specs.declared.Planned.{Planned}
-use Rattle.schedule.specs.declared.Planned.TheVariants.{Plan, Refused}
-use Rattle.schedule.specs.declared.Laid.{Laid}
-use Rattle.schedule.specs.declared.Laid.TheVariants.{Last, Short}
+use Rattle.schedule.specs.Answers.Planned.{Planned, Plan, Refused}
+use Rattle.schedule.specs.Answers.Laid.{Laid, Last, Short}
 use Rattle.schedule.specs.InArrays.{InArrays, instance_in, Plannable}
 use Rattle.schedule.specs.Call.{Call, called, is_too_short, call_for}
 use Rattle.schedule.specs.Plan.{last_of, outcome}

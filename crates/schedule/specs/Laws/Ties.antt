@@ -14,7 +14,7 @@ use Rattle.etf.specs.OfJob.{instance}
 use Rattle.priority.specs.declared.Ties.{Ties}
 use Rattle.priority.specs.Orders.{order_by, instance_by, every_task, only_tasks, as_many_tasks}
 use Rattle.priority.specs.TasksIn.{TasksIn, edge_of}
-use Rattle.schedule.specs.InArrays.{InArrays, reordered, instance_in, Plannable}
+use Rattle.schedule.specs.InArrays.{InArrays, reordered, instance_in, Ordering, Plannable, plannable_in_order}
 use Rattle.schedule.specs.Pass.{tied_by}
 use Rattle.schedule.specs.CoverPass.{HoldsPlan, HoldsIn}
 use Rattle.schedule.specs.Laws.Held.{held_tasks, held_few, well, short_tasks, timed, climb}
@@ -61,29 +61,14 @@ module _ {A : InArrays} (F : Plannable A) where
           let b : z.0 < A.tasks = omega (arith, z.1, length-values order 0 A.tasks) in
           (z.0, b, sym (value_at order 0 A.tasks z.0 b) ∙ z.2)
 
-      pub plannable_in : Plannable (reordered order A)
-      plannable_in = record {
-        some_processor = F.some_processor;
-        few_processors = F.few_processors;
-        some_task = F.some_task;
-        few_tasks = F.few_tasks;
-        few_edges = F.few_edges;
-        takes_time = F.takes_time;
-        short = F.short;
-        forward = F.forward;
-        within = F.within;
-        rising = F.rising;
-        near = F.near;
-        ordered = record {
-          within = λ i h. omega (arith, only_tasks ties (instance_in A) (order i) (at i h), held_tasks F);
-          each = found;
-        };
-        durations_size = F.durations_size;
-        from_size = F.from_size;
-        to_size = F.to_size;
-        counts_size = F.counts_size;
-        row_size = F.row_size;
+      pub ordering_in : Ordering A.tasks order
+      ordering_in = record {
+        within = λ i h. omega (arith, only_tasks ties (instance_in A) (order i) (at i h), held_tasks F);
+        each = found;
       }
+
+      pub plannable_in : Plannable (reordered order A)
+      plannable_in = plannable_in_order F ordering_in
 
       -- the instance by the rule
       pub instance_in_lem : instance_in (reordered order A) ≡ ordered row (instance_in A)

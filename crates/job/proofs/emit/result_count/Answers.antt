@@ -1,48 +1,40 @@
--- `emit::result_count`: the results among the tasks so far.
-use mathlib.Core.Path.{◌≡◌, ◌∙◌}
-use mathlib.Core.List.{List}
-use Prim.Native.Nat.{ℕ, ◌+◌, ◌≤◌}
-use native.Mathlib.Omega.{arith}
-use borrow.Author.Rules.{rules}
-use lib.ListN.{length, get_or, length-append}
+-- `emit::result_count`: the results are those of the counts that are not 0, one place after the other.
+use Rattle.std.proofs.Common.{◌≡◌, ◌⊎◌, inl, inr, ℕ, zero, suc, ◌+◌, ◌≤◌, Bool, true}
+use Rattle.std.proofs.Common.{not, eqb, List, rules, refl, ◌∙◌, arith, length, take, get_or, length-append}
+use Rattle.std.proofs.Math.Seq.{take-length}
+use Rattle.std.specs.List.{count_by}
+use Rattle.std.proofs.lemmas.List.Sums.{count_by_more_no, count_by_more_yes}
 use Rattle.job.specs.Write.{results_held}
-use Rattle.job.specs.Laws.Results.{held_first, held_with, held_without, held_few}
+use Rattle.base.specs.Laws.Tests.{same_or_not, ne→neqb, is_true}
+use Rattle.job.specs.Laws.Results.{held_first, held_with, held_without}
 use Rattle.job.proofs.emit.result_count.Goals as goal
-use Rattle.job.proofs.emit.result_count.Goals.{else-results-t-ne0, then-results-t-ne0}
 
-module _ (counts : List ℕ) (t n : ℕ) (e : n ≡ length (results_held counts t)) where
-  one_more : (get_or counts t 0 ≡ 0 → ⊥) → n + 1 ≡ length (results_held counts (t + 1))
-  one_more d = rw (held_with counts t d, length-append) (omega arith)
+delivers : ℕ → Bool
+delivers n = not (eqb n 0)
 
-  no_more : get_or counts t 0 ≡ 0 → n ≡ length (results_held counts (t + 1))
-  no_more z = rw (held_without counts t z) e
+delivers_yes : (n : ℕ) → (n ≡ 0 → ⊥) → delivers n ≡ true
+unfolding delivers
+delivers_yes n d = is_true (not (eqb n 0)) (ne→neqb n 0 d)
 
-  few : t ≤ 256 → n ≤ 256
-  few h = omega (arith, e, held_few counts t)
+more : (k : ℕ) → suc k ≡ k + 1
+more k = omega arith
 
-  all : (m : ℕ) → m ≤ t → t ≤ m → m ≤ 256 → (n ≡ length (results_held counts m)) × (n ≤ 256)
-  all m h k l = let q : t ≡ m = omega arith in (rw q at e, few (omega arith))
-
-pub loop-t-init : goal.loop-t-init
-loop-t-init c =
-    (search rules, search rules, rw (held_first c.args.results.now))
-
-pub overflow_add-count : goal.overflow_add-count
-overflow_add-count c =
-    let g = c.loop-t.invariant in
-    search (rules, few c.args.results.now _ _ g.2 (omega (arith, g.0, g.1)))
-
-pub loop-t-preserved : goal.loop-t-preserved
-loop-t-preserved c =
-    let g = c.loop-t.invariant in (
-      search rules,
-      search rules,
-      (elim c.if-results-t-ne0.branch [
-        | then-results-t-ne0 w ↦ w.count-is ∙ one_more _ _ _ g.2 w.if-results-t-ne0.true
-        | else-results-t-ne0 w ↦ w.count-is ∙ no_more _ _ _ g.2 w.if-results-t-ne0.false
-      ]),
-    )
+held_count : (xs : List ℕ) (k : ℕ) → k ≤ length xs → count_by delivers (take k xs) ≡ length (results_held xs k)
+unfolding delivers
+held_count xs zero h = rw (held_first xs) refl
+held_count xs (suc k) h = go (same_or_not (get_or xs k 0) 0) (held_count xs k (omega arith))
+  where
+    go : (get_or xs k 0 ≡ 0) ⊎ (get_or xs k 0 ≡ 0 → ⊥) → count_by delivers (take k xs) ≡ length (results_held xs k)
+        → count_by delivers (take (suc k) xs) ≡ length (results_held xs (suc k))
+    go (inl e) r = rw (more k) (count_by_more_no delivers xs k 0 (omega arith) (rw e refl) ∙ rw (held_without xs k e) r)
+    go (inr d) r =
+        rw (more k) (count_by_more_yes delivers xs k 0 (omega arith) (delivers_yes (get_or xs k 0) d)
+        ∙ rw (held_with xs k d, length-append) (omega arith))
 
 pub returns : goal.returns
+unfolding delivers
 returns c =
-    let g = c.loop-t.invariant in all _ _ _ g.2 _ c.loop-t-test.false g.0 g.1
+    let xs = c.args.counts.now in
+    let e : c.count.result ≡ count_by delivers xs = search rules in
+    let h = held_count xs (length xs) (omega arith) in
+    e ∙ rw (take-length xs) at h

@@ -6,8 +6,8 @@ use Prim.Native.Nat.{ℕ, ◌≤◌}
 use native.Mathlib.Omega.{arith}
 use lib.ListN.{length, get_or}
 use Rattle.base.specs.Laws.Tests.{when_true, when_false}
+use Rattle.std.proofs.lemmas.Result.{err_from_is_err_and}
 use Rattle.job.specs.Job.{Job, job_with_results}
-use Rattle.job.specs.Record.{kind_of}
 use Rattle.job.specs.Read.{result_array}
 use Rattle.job.specs.Write.{results_held}
 use Rattle.job.specs.Laws.Due.{nothing_delivered}
@@ -30,32 +30,23 @@ begun file start m sent counts e h =
       same = λ j s. rw (none j);
     }
 
-pub loop-result-init : goal.loop-result-init
-loop-result-init c =
+pub loop-least-init : goal.loop-least-init
+loop-least-init c =
     let pre = c.requires in begun _ _ _ _ _ pre.2 pre.0
 
-pub result-result-requires : goal.result-result-requires
-unfolding kind_of
-result-result-requires c =
-    let t = c.stands.ensures.yes (when_true c.loop-result-test.true) in (t.0, rw t.1)
+pub result-requires : goal.result-requires
+result-requires c =
+    c.stands.ensures.yes (when_true c.loop-least-test.true)
 
-pub returns-then-result-ne0 : goal.returns-then-result-ne0
-returns-then-result-ne0 c =
-    bad c.loop-result.invariant _ c.result-result.ensures c.if-result-ne0.true
+pub returns-in_err-result : goal.returns-in_err-result
+returns-in_err-result c =
+    let p = err_from_is_err_and c.from_residual.result c.from_residual.ensures.1 in
+    rw (p.1, p.2) (bad c.loop-least.invariant _ c.in_err-result.ensures)
 
-pub bounds-counts-task : goal.bounds-counts-task
-bounds-counts-task c =
-    c.index-task.ensures.1
-
-pub loop-result-smaller : goal.loop-result-smaller
-loop-result-smaller c =
-    let x = c.result-result.ensures in
-    omega (arith, x.ahead c.if-result-ne0.false, x.inside c.if-result-ne0.false)
-
-pub loop-result-preserved : goal.loop-result-preserved
-loop-result-preserved c =
-    on c.loop-result.invariant _ c.result-result.ensures c.if-result-ne0.false _ c.index-task.ensures.0
+pub loop-least-preserved : goal.loop-least-preserved
+loop-least-preserved c =
+    on c.loop-least.invariant _ c.in_ok-result.ensures _ c.from-task.ensures
 
 pub returns : goal.returns
 returns c =
-    done c.loop-result.invariant c.requires.1 (c.stands.ensures.no (when_false c.loop-result-test.false))
+    done c.loop-least.invariant c.requires.1 (c.stands.ensures.no (when_false c.loop-least-test.false))

@@ -5,18 +5,20 @@ use mathlib.Core.List.{List, [], ◌∷◌}
 use mathlib.Core.Option.{some}
 use Prim.Native.Nat.{ℕ, ◌+◌, ◌≤◌, ◌<◌}
 use native.Mathlib.Omega.{arith}
-use borrow.Author.Rules.{rules}
 use lib.ListN.{length, get_or, drop, set, replicate}
 use Rattle.base.specs.Lists.{values}
 use Rattle.base.specs.Laws.Tests.{when_true, when_false}
 use Rattle.base.specs.Laws.Values.{length-values}
-use Rattle.job.specs.declared.parse.FoundStep.{FoundStep}
+use Rattle.std.specs.Prelude.{Err}
+use Rattle.std.proofs.lemmas.Result.{err_from_is_err_and}
+use Rattle.job.specs.declared.table.Refusal.{Refusal}
+use Rattle.job.specs.declared.table.Refusal.TheVariants.{MisplacedKind}
 use Rattle.job.specs.Job.{Job, with_tasks}
-use Rattle.job.specs.Record.{step, kind_of, too_early_number, pairs_due}
+use Rattle.job.specs.Record.{Kind, step, kind_of, too_early_number, pairs_due}
 use Rattle.job.specs.Read.{refused, records}
-use Rattle.job.specs.Pass.{misplaced_number, StepDue, StepsDue, StepPassed, StepsPassed}
-use Rattle.job.specs.Laws.Judged.{at-end, passes, stops}
-use Rattle.job.specs.Laws.Kinds.{kind_byte_lem, misplaced_at, misplaced_some}
+use Rattle.job.specs.Pass.{Refuses, NoneThere, NoKind, StepDue, StepsDue, StepRead, StepPassed, StepsTaken}
+use Rattle.job.specs.Laws.Judged.{passes}
+use Rattle.job.specs.Laws.Kinds.{misplaced_kind}
 use Rattle.job.specs.Laws.Due.{tasks_then, no_tasks, next_step}
 use Rattle.job.specs.Laws.Spare.{front_none, front_set, row_set}
 use Rattle.job.proofs.parse.steps.Invariants.{row, Going}
@@ -43,95 +45,55 @@ module _ (file : List ℕ) (start : ℕ) (durations : List ℕ) (m at : ℕ) (g 
   wired j s = s.wired
 
   -- a step with trouble
-  bad : (r : FoundStep) → StepPassed file at m r → (r.trouble ≡ 0 → ⊥) →
-      StepsPassed file start durations (record { trouble = r.trouble; count = m; next = at })
-  bad r x z = record {
-    answer = λ j s. g.same j s ∙ x.answer (with_tasks j (row durations m)) (due j s) ∙ stops _ _ z ∙ sym (stops _ _ z);
-    taken = λ e. absurd (z e);
-  }
+  bad : (e : Refusal) → StepPassed file at m (Err e) → Refuses file start (StepsDue file start) e
+  bad e x j s = g.same j s ∙ x (with_tasks j (row durations m)) (due j s)
 
   -- one step more
-  on : (r : FoundStep) → StepPassed file at m r → r.trouble ≡ 0 → Going file start (set durations m r.duration) (m + 1) r.next
-  on r x z = record {
-    few = omega (arith, x.few z);
-    inside = x.inside z;
-    front = front_set g.front r.duration (x.few z);
+  on : (d : ℕ) → StepRead file at m d → Going file start (set durations m d) (m + 1) (at + 5)
+  on d x = record {
+    few = omega (arith, x.few);
+    inside = x.inside;
+    front = front_set g.front d x.few;
     first = λ e. let n : ⊥ = omega arith in absurd n;
-    same = λ j s. g.same j s ∙ x.answer (with_tasks j (row durations m)) (due j s) ∙ passes _ _ z
-        ∙ passes _ _ (wired j s) ∙ ap (records (drop r.next file) 0) (tasks_then j (row durations m) (r.duration ∷ [])
-        ∙ ap (with_tasks j) (sym (row_set durations m r.duration (omega (arith, x.few z, g.front.long)))));
+    same = λ j s. g.same j s ∙ x.answer (with_tasks j (row durations m)) (due j s)
+        ∙ passes _ _ (wired j s) ∙ ap (records (drop (at + 5) file) 0) (tasks_then j (row durations m) (d ∷ [])
+        ∙ ap (with_tasks j) (sym (row_set durations m d (omega (arith, x.few, g.front.long)))));
   }
 
-  -- the file ends
-  ended : length file ≤ at → StepsPassed file start durations (record { trouble = 1; count = m; next = at })
-  ended h = record { answer = λ j s. g.same j s ∙ at-end file at _ h; taken = λ e. let z : ⊥ = omega arith in absurd z }
+  -- no record is there
+  ended : (e : Refusal) → NoKind file at e → Refuses file start (StepsDue file start) e
+  ended e x j s = g.same j s ∙ x.answer (with_tasks j (row durations m))
 
-  module _ (h : at < length file) (over : get_or file at 0 ≡ 2 → ⊥) where
-    other : kind_of (get_or file at 0) ≡ some step → ⊥
-    other e = over (kind_byte_lem (get_or file at 0) step e)
+  module _ (h : at < length file) (over : NoneThere file at step) where
+    -- no step is there, and none was before
+    none : m ≡ 0 → (k : Kind) → kind_of (get_or file at 0) ≡ some k → Refuses file start (StepsDue file start) MisplacedKind
+    none e k is j s = rw (g.first e) at (missing (rw (← g.first e) at s))
+      where
+        missing : StepsDue file at j → records (drop at file) 0 j ≡ refused 3
+        missing s = misplaced_kind file at j k h is (⊎_elim (λ w. absurd (over h (is ∙ ap some w))) (λ w. w) (s.alone h k is))
 
-    -- no step is there
-    missing : (j : Job) → StepsDue file at j → (n : ℕ) → n ≡ misplaced_number (kind_of (get_or file at 0)) →
-        records (drop at file) 0 j ≡ refused n
-    missing j s n i = rw i (misplaced_at file at j h (λ k q. ⊎_elim (λ w. absurd (other (rw w at q))) (λ w. w) (s.alone h k q)))
+    done : 1 ≤ m → StepsTaken file start durations m at
+    done e = record { answer = g.same; some_task = e; few_tasks = g.few; inside = h; over = over; front = g.front }
 
-    none : m ≡ 0 → (n : ℕ) → n ≡ misplaced_number (kind_of (get_or file at 0)) →
-        StepsPassed file start durations (record { trouble = n; count = m; next = at })
-    none e n i =
-        let z : n ≡ 0 → ⊥ = λ q. misplaced_some (kind_of (get_or file at 0)) (sym i ∙ q) in
-        record {
-          answer = λ j s. (rw (g.first e) at (missing j (rw (← g.first e) at s) n i)) ∙ sym (stops n _ z);
-          taken = λ q. absurd (z q);
-        }
-
-    done : 1 ≤ m → StepsPassed file start durations (record { trouble = 0; count = m; next = at })
-    done e = record {
-      answer = g.same;
-      taken = λ z. record { some_task = e; few_tasks = g.few; inside = h; over = other; front = g.front };
-    }
-
-pub loop-step-init : goal.loop-step-init
-loop-step-init c =
+pub loop-start-init : goal.loop-start-init
+loop-start-init c =
     begun _ _ _ c.requires.1 c.requires.0
 
-pub step-step-requires : goal.step-step-requires
-unfolding kind_of
-step-step-requires c =
-    let t = c.stands.ensures.yes (when_true c.loop-step-test.true) in
-    (t.0, rw t.1, c.loop-step.invariant.few)
+pub step-requires : goal.step-requires
+step-requires c =
+    let t = c.stands.ensures.yes (when_true c.loop-start-test.true) in
+    (t.0, t.1, c.loop-start.invariant.few)
 
-pub returns-then-step-ne0 : goal.returns-then-step-ne0
-returns-then-step-ne0 c =
-    bad _ _ _ _ _ c.loop-step.invariant _ c.step-step.ensures c.if-step-ne0.true
+pub returns-in_err-durations : goal.returns-in_err-durations
+returns-in_err-durations c =
+    let p = err_from_is_err_and c.from_residual.result c.from_residual.ensures.1 in
+    rw (p.1, p.2) (bad _ _ _ _ _ c.loop-start.invariant _ c.in_err-durations.ensures)
 
-pub bounds-durations-count : goal.bounds-durations-count
-bounds-durations-count c =
-    c.step-step.ensures.few c.if-step-ne0.false
-
-pub overflow_add-count : goal.overflow_add-count
-overflow_add-count c =
-    let h = c.step-step.ensures.few c.if-step-ne0.false in search rules
-
-pub loop-step-smaller : goal.loop-step-smaller
-loop-step-smaller c =
-    let x = c.step-step.ensures in
-    omega (arith, x.ahead c.if-step-ne0.false, x.inside c.if-step-ne0.false)
-
-pub loop-step-preserved : goal.loop-step-preserved
-loop-step-preserved c =
-    on _ _ _ _ _ c.loop-step.invariant _ c.step-step.ensures c.if-step-ne0.false
-
-pub returns-then-file-at : goal.returns-then-file-at
-returns-then-file-at c =
-    ended _ _ _ _ _ c.loop-step.invariant c.if-file-at.true
+pub loop-start-preserved : goal.loop-start-preserved
+loop-start-preserved c =
+    on _ _ _ _ _ c.loop-start.invariant _ c.in_ok-durations.ensures
 
 pub returns-then-count-eq0 : goal.returns-then-count-eq0
 returns-then-count-eq0 c =
-    none _ _ _ _ _ c.loop-step.invariant c.if-file-at.false
-    (c.stands.ensures.no (when_false c.loop-step-test.false) c.if-file-at.false) c.if-count-eq0.true
-    _ c.misplaced.ensures
-
-pub returns : goal.returns
-returns c =
-    done _ _ _ _ _ c.loop-step.invariant c.if-file-at.false
-    (c.stands.ensures.no (when_false c.loop-step-test.false) c.if-file-at.false) (search rules)
+    let k = c.in_ok-kind_at.ensures in
+    none _ _ _ _ _ c.loop-start.invariant k.0 (c.stands.ensures.no (when_false c.loop-start-test.false)) c.if-count-eq0.true _ k.1

@@ -20,8 +20,8 @@ pub record Going (file : List ℕ) (start : ℕ) (durations : List ℕ) (m at : 
   pub first : m ≡ 0 → at ≡ start
   pub same : (j : Job) → StepsDue file start j → records (drop start file) 0 j ≡ records (drop at file) 0 (with_tasks j (row durations m))
 
-abbrev pub invariant-loop-step : goal.invariant-loop-step
-invariant-loop-step l = Going l.file l.start l.durations l.count l.at
+abbrev pub invariant-loop-start : goal.invariant-loop-start
+invariant-loop-start l = Going l.file l.start l.durations l.count l.at
 
-abbrev pub decreases-loop-step : goal.decreases-loop-step
-decreases-loop-step l = length l.file - l.at
+abbrev pub decreases-loop-start : goal.decreases-loop-start
+decreases-loop-start l = length l.file - l.at

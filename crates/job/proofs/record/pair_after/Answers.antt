@@ -3,9 +3,10 @@ use mathlib.Core.Path.{◌≡◌, refl, sym, ◌∙◌}
 use mathlib.Core.Logic.{◌⊎◌, inl, inr}
 use Prim.Native.Nat.{ℕ, ◌+◌, ◌≤◌, ◌<◌}
 use native.Mathlib.Omega.{arith}
+use Rattle.std.specs.Prelude.{Some, None}
 use Rattle.job.specs.declared.record.Pair.{Pair}
 use Rattle.job.specs.Pass.{due_from, PairAfter}
-use Rattle.job.specs.Laws.Wires.{past_itself, next_row}
+use Rattle.job.specs.Laws.Wires.{past_itself, next_row, none_due}
 use Rattle.job.proofs.record.pair_after.Goals as goal
 use Rattle.job.proofs.record.pair_after.Goals.{Joined-to-x, else-to-x, then-to-x}
 
@@ -17,18 +18,26 @@ past : (n p q to : ℕ) → Past p q to → (due_from n p to ≡ due_from n p (q
 past n p q to (inl (e, d)) = rw (d, e) (sym (past_itself n p), λ z. absurd (omega (arith, z)))
 past n p q to (inr (e, d)) = rw d (refl, λ z. e (sym z))
 
-same_row : (n : ℕ) (x : Pair) (to : ℕ) → Past x.from x.to to → x.from < n → to < n → PairAfter n x record { from = x.from; to = to }
-same_row n x to h p k =
-    let r = past n x.from x.to to h in
-    record { left = r.0; on = record { within = omega arith; below = λ _. k; different = λ _. r.1 } }
+module _ (n : ℕ) (x : Pair) (to : ℕ) (h : Past x.from x.to to) (p : x.from < n) where
+  same_row : to < n → PairAfter n x (Some record { from = x.from; to = to })
+  same_row k =
+      let r = past n x.from x.to to h in
+      record { left = r.0; on = record { from_below = p; to_below = k; different = r.1 } }
 
-row_after : (n : ℕ) (x : Pair) (to from' : ℕ) → Past x.from x.to to → x.from < n → n ≤ to → from' ≡ x.from + 1
-    → PairAfter n x record { from = from'; to = 0 }
-row_after n x to from' h p k e =
-    rw e record {
-      left = sym (next_row n x.from to k p) ∙ (past n x.from x.to to h).0;
-      on = record { within = omega arith; below = λ z. omega arith; different = λ _ z. absurd (omega (arith, z)) };
-    }
+  module _ (k : n ≤ to) (from : ℕ) (e : from ≡ x.from + 1) where
+    row_after : from < n → PairAfter n x (Some record { from = from; to = 0 })
+    row_after l =
+        record {
+          left = rw e (sym (next_row n x.from to k p) ∙ (past n x.from x.to to h).0);
+          on = record { from_below = l; to_below = omega arith; different = λ z. absurd (omega (arith, z)) };
+        }
+
+    none_after : n ≤ from → PairAfter n x None
+    none_after l =
+        record {
+          left = sym (none_due n (x.from + 1) 0 (omega arith)) ∙ sym (next_row n x.from to k p) ∙ (past n x.from x.to to h).0;
+          on = tt;
+        }
 
 past-here : (w : Joined-to-x) → Past w.args.x.from w.args.x.to w.if-to-x.to
 past-here w =
@@ -41,7 +50,12 @@ pub returns-then-to-n : goal.returns-then-to-n
 returns-then-to-n c =
     same_row _ _ _ (past-here (goal.at.returns-then-to-n c).Joined-to-x) c.requires.1 (omega (arith, c.if-to-n.true))
 
+pub returns-then-from-n : goal.returns-then-from-n
+returns-then-from-n c =
+    row_after _ _ _ (past-here (goal.at.returns-then-from-n c).Joined-to-x) c.requires.1
+    (omega (arith, c.if-to-n.false)) _ (omega arith) (omega (arith, c.if-from-n.true))
+
 pub returns : goal.returns
 returns c =
-    row_after _ _ c.if-to-x.to _ (past-here (goal.at.returns c).Joined-to-x) c.requires.1
-    (omega (arith, c.if-to-n.false)) (omega arith)
+    none_after _ _ _ (past-here (goal.at.returns c).Joined-to-x) c.requires.1
+    (omega (arith, c.if-to-n.false)) (c.args.x.from + 1) (omega arith) (omega (arith, c.if-from-n.false))

@@ -1,7 +1,6 @@
 -- `put::line`: the word, then the number.
 use mathlib.Core.List.{List}
 use Prim.Native.Nat.{ℕ}
-use borrow.Author.Rules.{rules}
 use Rattle.base.specs.Slices.{Put}
 use Rattle.base.specs.Laws.Put.{put_then}
 use Rattle.base.specs.Text.{line_feed}
@@ -14,6 +13,5 @@ whole : {out out' out'' : List ℕ} {at next end : ℕ} {word : List ℕ} (x : �
 unfolding line
 whole x p q = put_then p q
 
-pub returns : goal.returns
-returns c =
-    record { put = whole _ c.word-number.ensures c.field.ensures.put; upper_bound = search rules }
+pub returns-clause-put : goal.returns-clause-put
+returns-clause-put c = whole _ c.word-number.ensures c.field.ensures.put

@@ -1,27 +1,19 @@
--- `chains::greatest_in`: before place q the greatest is that of the places below q; each turn adds one place.
-use mathlib.Core.Path.{◌≡◌}
-use native.Mathlib.Omega.{arith}
-use borrow.Author.Rules.{rules}
-use Rattle.base.specs.Laws.Most.{none_yet, one_place}
+-- `chains::greatest_in`: what `max` finds among the first n, by places.
+use Rattle.std.proofs.Common.{◌≡◌, sym, ap, ◌∙◌, ℕ, max, take, Option, arith}
+use Rattle.std.proofs.lemmas.Grind.{common_steps}
+use Rattle.std.specs.List.{reduce}
+use Rattle.std.specs.Option.{unwrap_or}
+use Rattle.std.proofs.lemmas.Iterator.{YieldsList, YieldsList-from_slice}
+use Rattle.std.proofs.lemmas.Iterator.Consumers.{YieldsList-from_copied, max_from_yields_List}
+use Rattle.std.proofs.lemmas.Iterator.Adapters.{option_map_id}
+use Rattle.schedule.specs.Laws.Rows.Greatest.{greatest_number_is}
 use Rattle.schedule.proofs.chains.greatest_in.Goals as goal
-use Rattle.schedule.proofs.chains.greatest_in.Goals.{else-most-cost, then-most-cost}
-
-pub loop-q-init : goal.loop-q-init
-loop-q-init c =
-    (search rules, search rules, none_yet _)
-
-pub loop-q-preserved : goal.loop-q-preserved
-loop-q-preserved c =
-    let v = c.loop-q.invariant in (
-      search rules,
-      search rules,
-      (elim c.if-most-cost.branch [
-        | then-most-cost w ↦ one_place _ _ _ _ v.2 (omega (arith, w.if-most-cost.true, w.most-is))
-        | else-most-cost w ↦ one_place _ _ _ _ v.2 (omega (arith, w.if-most-cost.false, w.most-is))
-      ]),
-    )
 
 pub returns : goal.returns
 returns c =
-    let e : c.loop-q.q ≡ c.args.n = omega arith in
-    rw e at c.loop-q.invariant.2
+    let first = take c.args.n c.args.row.now in
+    let rest : c.copied.result.iter.rest.now ≡ first = grind (arith, common_steps, c.iter.ensures.rest) in
+    let all : YieldsList _ (λ (x : ℕ). x) c.copied.result first = YieldsList-from_copied (YieldsList-from_slice first rest) in
+    let found : c.max.result ≡ reduce max first =
+    sym (option_map_id c.max.result) ∙ max_from_yields_List c.copied.result c.max.result c.max.ensures.ran all in
+    c.unwrap_or.ensures ∙ ap (λ (o : Option ℕ). unwrap_or o 0) found ∙ greatest_number_is c.args.n c.args.row.now

@@ -3,7 +3,6 @@ use mathlib.Core.Path.{◌≡◌, sym, ◌∙◌}
 use mathlib.Core.List.{List}
 use Prim.Native.Nat.{ℕ, ◌+◌, ◌-◌, ◌≤◌, ◌<◌}
 use native.Mathlib.Omega.{arith}
-use borrow.Author.Rules.{rules}
 use lib.ListN.{get_or}
 use Rattle.etf.specs.Checker.{latest_start}
 use Rattle.schedule.specs.Pass.{place_troubles}
@@ -23,26 +22,21 @@ module _ (n m t : ℕ) (starts processors : List ℕ) (h : t < m) (all p : ℕ)
   neither a b = sym (well_placed n starts processors t m h (omega arith) b) ∙ inv
 
 pub loop-t-init : goal.loop-t-init
-loop-t-init c =
-    (search rules, all_tasks_left _ _ _ _)
+loop-t-init c = all_tasks_left _ _ _ _
 
-pub returns-then-n-index : goal.returns-then-n-index
-returns-then-n-index c =
-    ten _ _ _ _ _ c.loop-t-test.true _ _ c.loop-t.invariant.1 c.index.ensures.0
-    (omega (arith, c.if-n-index.true))
+pub returns-then-instance-from : goal.returns-then-instance-from
+returns-then-instance-from c =
+    ten _ _ _ _ _ c.loop-t-test.true _ _ c.loop-t.invariant c.from.ensures (omega (arith, c.if-instance-from.true))
 
-pub returns-then-starts-t-gt600000000 : goal.returns-then-starts-t-gt600000000
-returns-then-starts-t-gt600000000 c =
-    eleven _ _ _ _ _ c.loop-t-test.true _ _ c.loop-t.invariant.1 c.index.ensures.0
-    (omega (arith, c.if-n-index.false)) (omega (arith, c.if-starts-t-gt600000000.true))
+pub returns-then-plan-t-gt600000000 : goal.returns-then-plan-t-gt600000000
+returns-then-plan-t-gt600000000 c =
+    eleven _ _ _ _ _ c.loop-t-test.true _ _ c.loop-t.invariant c.from.ensures (omega (arith, c.if-instance-from.false))
+    (omega (arith, c.if-plan-t-gt600000000.true))
 
 pub loop-t-preserved : goal.loop-t-preserved
-loop-t-preserved c = (
-  search rules,
-  neither _ _ _ _ _ c.loop-t-test.true _ _ c.loop-t.invariant.1 c.index.ensures.0
-      (omega (arith, c.if-n-index.false)) (omega (arith, c.if-starts-t-gt600000000.false)),
-)
+loop-t-preserved c =
+    neither _ _ _ _ _ c.loop-t-test.true _ _ c.loop-t.invariant c.from.ensures (omega (arith, c.if-instance-from.false))
+    (omega (arith, c.if-plan-t-gt600000000.false))
 
 pub returns : goal.returns
-returns c =
-    sym (no_task_left _ _ _ _ _ c.loop-t-test.false) ∙ c.loop-t.invariant.1
+returns c = sym (no_task_left _ _ _ _ _ c.loop-t-test.false) ∙ c.loop-t.invariant

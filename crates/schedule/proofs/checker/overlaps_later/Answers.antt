@@ -5,7 +5,6 @@ use mathlib.Core.List.{List}
 use Prim.Native.Nat.{ℕ, ◌+◌, ◌-◌, ◌≤◌, ◌<◌}
 use native.Mathlib.Numerals.{add-one}
 use native.Mathlib.Omega.{arith}
-use borrow.Author.Rules.{rules}
 use borrow.Author.Tests.{lt-ltb, le-ltb, eq-eqb, ne_eqb}
 use lib.Dec.{eqb}
 use lib.ListN.{get_or}
@@ -13,9 +12,9 @@ use Rattle.schedule.specs.Pass.{some_in_places, overlap_at, overlaps_later}
 use Rattle.schedule.specs.Laws.Rows.SomeIn.{none_left, met, passed}
 use Rattle.schedule.proofs.checker.overlaps_later.Invariants.{Going}
 use Rattle.schedule.proofs.checker.overlaps_later.Goals as goal
-use Rattle.schedule.proofs.checker.overlaps_later.Goals.{else-processors-u, then-processors-u+else-other-finish}
-use Rattle.schedule.proofs.checker.overlaps_later.Goals.{then-processors-u+then-other-finish+else-start-end}
-use Rattle.schedule.proofs.checker.overlaps_later.Goals.{then-processors-u+then-other-finish+then-start-end}
+use Rattle.schedule.proofs.checker.overlaps_later.Goals.{else-table-u, then-table-u+else-other-finish}
+use Rattle.schedule.proofs.checker.overlaps_later.Goals.{then-table-u+then-other-finish+else-start-end}
+use Rattle.schedule.proofs.checker.overlaps_later.Goals.{then-table-u+then-other-finish+then-start-end}
 
 -- the test of tasks t and u, by the three tests of the code
 module _ (durations starts processors : List ℕ) (t u : ℕ) where
@@ -81,42 +80,26 @@ module _ {durations starts processors : List ℕ} {m t found u : ℕ} (g : Going
       with_false true = refl
       with_false false = refl
 
-pub overflow_add-finish : goal.overflow_add-finish
-overflow_add-finish c =
-    let t = c.args.t in
-    let later = c.requires.0 in
-    let judgeable = c.requires.1 in
-    search (rules, judgeable.in_time t later, judgeable.short t later)
-
 pub loop-u-init : goal.loop-u-init
-loop-u-init c =
-    begun _ _ _ _ _ c.requires.0
-
-pub overflow_add-end : goal.overflow_add-end
-overflow_add-end c =
-    let u = c.loop-u.u in
-    let more = c.loop-u-test.true in
-    let judgeable = c.requires.1 in
-    search (rules, judgeable.in_time u more, judgeable.short u more)
-
-pub overflow_add-found : goal.overflow_add-found
-overflow_add-found c =
-    let judgeable = c.requires.1 in
-    record { fits = omega (arith, c.loop-u.invariant.within, c.loop-u.invariant.few, judgeable.few) }
+loop-u-init c = begun _ _ _ _ _ c.requires
 
 pub loop-u-preserved : goal.loop-u-preserved
 loop-u-preserved c =
     let going = c.loop-u.invariant in
     let more = c.loop-u-test.true in
-    (elim c.if-processors-u.branch [
-      | then-processors-u+then-other-finish+then-start-end w ↦
+    let here = c.finish-finish.ensures in
+    let there = c.finish-end.ensures in
+    (elim c.if-table-u.branch [
+      | then-table-u+then-other-finish+then-start-end w ↦
           one_more going w.found-is more
-          (overlaps _ _ _ _ _ w.if-processors-u.true (omega (arith, w.if-other-finish.true)) w.if-start-end.true)
-      | then-processors-u+then-other-finish+else-start-end w ↦
-          no_more going w.found-is more (finishes_before _ _ _ _ _ w.if-processors-u.true w.if-other-finish.true w.if-start-end.false)
-      | then-processors-u+else-other-finish w ↦
-          no_more going w.found-is more (starts_after _ _ _ _ _ w.if-processors-u.true (omega (arith, w.if-other-finish.false)))
-      | else-processors-u w ↦ no_more going w.found-is more (elsewhere _ _ _ _ _ w.if-processors-u.false)
+          (overlaps _ _ _ _ _ w.if-table-u.true (omega (arith, w.if-other-finish.true, here)) (omega (arith, w.if-start-end.true, there)))
+      | then-table-u+then-other-finish+else-start-end w ↦
+          no_more going w.found-is more
+          (finishes_before _ _ _ _ _ w.if-table-u.true (omega (arith, w.if-other-finish.true, here))
+          (omega (arith, w.if-start-end.false, there)))
+      | then-table-u+else-other-finish w ↦
+          no_more going w.found-is more (starts_after _ _ _ _ _ w.if-table-u.true (omega (arith, w.if-other-finish.false, here)))
+      | else-table-u w ↦ no_more going w.found-is more (elsewhere _ _ _ _ _ w.if-table-u.false)
     ])
 
 pub returns : goal.returns

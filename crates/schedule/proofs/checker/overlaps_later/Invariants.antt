@@ -16,7 +16,5 @@ pub record Going (durations starts processors : List ℕ) (m t found u : ℕ) : 
       ≡ overlaps_later durations starts processors m t
 
 abbrev pub invariant-loop-u : goal.invariant-loop-u
-invariant-loop-u l = Going l.durations l.starts l.processors l.tasks l.t l.found l.u
-
-abbrev pub decreases-loop-u : goal.decreases-loop-u
-decreases-loop-u l = l.tasks - l.u
+invariant-loop-u l = Going l.table.instance.durations.now l.table.plan.starts.now l.table.plan.processors.now l.table.instance.tasks l.t
+    l.found l.u

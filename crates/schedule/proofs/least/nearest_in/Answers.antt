@@ -4,12 +4,11 @@ use mathlib.Core.Logic.{◌⊎◌, inl, inr}
 use mathlib.Core.List.{List}
 use Prim.Native.Nat.{ℕ, ◌+◌, ◌≤◌, ◌<◌}
 use native.Mathlib.Omega.{arith}
-use borrow.Author.Rules.{rules}
 use lib.ListN.{get_or}
 use Rattle.base.specs.Laws.Tests.{same_or_not}
 use Rattle.schedule.specs.CoverPass.{NoMore}
 use Rattle.schedule.proofs.least.nearest_in.Goals as goal
-use Rattle.schedule.proofs.least.nearest_in.Goals.{else-q-p+else-cost-ne0, then-q-p+else-cost-least, then-q-p+then-cost-least}
+use Rattle.schedule.proofs.least.nearest_in.Goals.{then-q-p, else-q-p+else-cost-ne0}
 
 -- one place more
 module _ {row : List ℕ} {q p most least least' : ℕ} (N : NoMore row q p most least) where
@@ -23,24 +22,11 @@ module _ {row : List ℕ} {q p most least least' : ℕ} (N : NoMore row q p most
       each i b d (inl e) = rw e (k (rw e at d))
       each i b d (inr n) = omega (arith, N.to_each i (omega arith) d)
 
-pub loop-q-init : goal.loop-q-init
-loop-q-init c =
-    (search rules, search rules, record { to_most = omega arith; to_each = λ q b d. absurd (omega arith) })
-
 pub loop-q-preserved : goal.loop-q-preserved
 loop-q-preserved c =
-    let v = c.loop-q.invariant in (
-      search rules,
-      search rules,
-      (elim c.if-q-p.branch [
-        | then-q-p+then-cost-least w ↦ one_more v.2 (omega (arith, w.if-cost-least.true, w.least-is)) (λ d. omega (arith, w.least-is))
-        | then-q-p+else-cost-least w ↦ one_more v.2 (omega (arith, w.least-is)) (λ d. omega (arith, w.if-cost-least.false, w.least-is))
-        | else-q-p+else-cost-ne0 w ↦ one_more v.2 (omega (arith, w.least-is))
-            (λ d. absurd (d (omega (arith, w.if-q-p.false), omega (arith, w.if-cost-ne0.false))))
-      ]),
-    )
-
-pub returns : goal.returns
-returns c =
-    let e : c.loop-q.q ≡ c.args.n = omega arith in
-    rw e at c.loop-q.invariant.2
+    let v = c.loop-q.invariant in
+    (elim c.if-q-p.branch [
+      | then-q-p w ↦ one_more v (omega (arith, w.min-least.ensures, w.least-is)) (λ d. omega (arith, w.min-least.ensures, w.least-is))
+      | else-q-p+else-cost-ne0 w ↦ one_more v (omega (arith, w.least-is))
+          (λ d. absurd (d (omega (arith, w.if-q-p.false), omega (arith, w.if-cost-ne0.false))))
+    ])

@@ -1,12 +1,13 @@
 -- `least::of_last`: the latest finish of the tasks before t, and the smallest sum of those that have it.
 use mathlib.Core.Path.{◌≡◌, refl, sym, ap, ◌∙◌}
 use mathlib.Core.Logic.{◌⊎◌, inl, inr}
-use Prim.Native.Nat.{ℕ, ◌+◌, ◌-◌, ◌≤◌, ◌<◌, max}
+use Prim.Native.Nat.{ℕ, ◌+◌, ◌≤◌, ◌<◌, max, min}
 use native.Mathlib.Omega.{arith}
 use lib.ListN.{get_or}
 use Rattle.base.specs.Rows.{most}
 use Rattle.base.specs.Laws.Tests.{le_or_lt}
 use Rattle.base.specs.Laws.Most.{most_ge, most_more, none_yet}
+use Rattle.schedule.specs.Pass.{finish_in}
 use Rattle.schedule.specs.CoverPass.{LeastOfLast}
 use Rattle.schedule.proofs.least.of_last.Given as goal
 
@@ -68,7 +69,7 @@ module _ (finish sums : ℕ → ℕ) where
       below T e k = g.smallest.to_each T k (e ∙ same)
 
       -- it finishes with the last, and its sum is smaller
-      pub lower : finish t ≡ end → sums t < least → Going (t + 1) end (sums t)
+      lower : finish t ≡ end → sums t < least → Going (t + 1) end (sums t)
       lower d k = record {
         latest = omega (arith, same, g.latest);
         smallest = record { to_each = λ T b e. each T e (place T b); is_one = λ n. (t, omega arith, omega (arith, more), refl) };
@@ -103,8 +104,13 @@ module _ (finish sums : ℕ → ℕ) where
               → (T : ℕ) × (T < t + 1) × (finish T ≡ most (t + 1) finish) × (least ≡ sums T)
           one (T, b, e, q) = (T, omega arith, kept e, q)
 
-abbrev pub invariant-loop-t : goal.invariant-loop-t
-invariant-loop-t l = (l.t ≤ l.tasks) × Going (λ T. get_or l.starts T 0 + get_or l.durations T 0) (λ T. get_or l.sums T 0) l.t l.end l.least
+      -- it finishes with the last, and the smaller sum is kept
+      pub tied : {least' : ℕ} → 0 < finish t → finish t ≡ end → least' ≡ min least (sums t) → Going (t + 1) end least'
+      tied {least'} p d e = go (le_or_lt least (sums t))
+        where
+          go : (least ≤ sums t) ⊎ (sums t < least) → Going (t + 1) end least'
+          go (inl k) = let q : least' ≡ least = omega arith in rw q (higher p (λ z. k))
+          go (inr k) = let q : least' ≡ sums t = omega arith in rw q (lower d k)
 
-abbrev pub decreases-loop-t : goal.decreases-loop-t
-decreases-loop-t l = l.tasks - l.t
+abbrev pub invariant-loop-t : goal.invariant-loop-t
+invariant-loop-t l = Going (finish_in l.table) (λ T. get_or l.sums T 0) l.t l.end l.least

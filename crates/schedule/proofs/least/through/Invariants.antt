@@ -3,13 +3,13 @@
 use mathlib.Core.Path.{◌≡◌, refl, ◌∙◌}
 use mathlib.Core.Logic.{◌⊎◌, inl, inr}
 use mathlib.Core.Bool.{not}
-use Prim.Native.Nat.{ℕ, ◌+◌, ◌*◌, ◌-◌, ◌^◌, ◌≤◌, ◌<◌}
+use Prim.Native.Nat.{ℕ, ◌+◌, ◌*◌, ◌-◌, ◌^◌, ◌≤◌, ◌<◌, min}
 use native.Mathlib.Omega.{arith}
 use lib.Bits.{bit_and, and_le_r}
 use lib.Count.{count_trailing_zeros}
 use lib.Dec.{T as Holds}
 use lib.ListN.{get_or}
-use Rattle.base.specs.Laws.Tests.{not_both, fails, same_or_not}
+use Rattle.base.specs.Laws.Tests.{not_both, fails, same_or_not, le_or_lt}
 use Rattle.schedule.specs.CoverPass.{has, SmallestOf, Served}
 use Rattle.schedule.specs.Laws.Walk.Sets.{in_empty, member_below, lowest_in_lem, left_of, left_in}
 use Rattle.schedule.proofs.least.through.Given as goal
@@ -82,11 +82,12 @@ module _ (idle latest low before : ℕ) (reach time : ℕ → ℕ) where
 
     -- by what was worked out: when its messages are there, and what they take
     module _ {there takes : ℕ} (reach_is : there ≡ reach q) (time_is : takes ≡ time q) where
-      pub lower : {least' : ℕ} → latest ≤ there → takes + before < least → least' ≡ takes + before → Lower least'
-      lower a b e = inl (omega arith, omega arith, omega (arith, e))
-
-      pub no_lower : {least' : ℕ} → least ≤ takes + before → least' ≡ least → Lower least'
-      no_lower b e = inr (λ a. omega arith, e)
+      pub lower : {least' : ℕ} → latest ≤ there → least' ≡ min least (takes + before) → Lower least'
+      lower {least'} a e = go (le_or_lt least (takes + before))
+        where
+          go : (least ≤ takes + before) ⊎ (takes + before < least) → Lower least'
+          go (inl b) = inr (λ _. omega arith, omega (arith, e))
+          go (inr b) = inl (omega arith, omega arith, omega (arith, e))
 
       pub too_early : {least' : ℕ} → there < latest → least' ≡ least → Lower least'
       too_early b e = inr (λ a. absurd (omega arith), e)
@@ -139,8 +140,8 @@ module _ (idle latest low before : ℕ) (reach time : ℕ → ℕ) where
             go (inr (P, v, d)) = inr (P, newer P v, e ∙ d)
 
 abbrev pub invariant-loop-rest : goal.invariant-loop-rest
-invariant-loop-rest l = Going l.idle l.latest l.low l.before (λ P. l.finish + l.count * get_or l.row P 0)
-    (λ P. l.count * get_or l.row P 0) l.least l.rest
+invariant-loop-rest l = Going l.tick.idle l.tick.latest l.low l.before (λ P. l.sent.finish + l.sent.count * get_or l.row P 0)
+    (λ P. l.sent.count * get_or l.row P 0) l.least l.rest
 
 abbrev pub decreases-loop-rest : goal.decreases-loop-rest
 decreases-loop-rest l = l.rest

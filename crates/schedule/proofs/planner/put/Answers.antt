@@ -4,4 +4,4 @@ use Rattle.schedule.proofs.planner.put.Goals as goal
 
 pub returns : goal.returns
 returns c =
-    record { starts_after = refl; processors_after = refl; busy_after = refl; waiting_after = refl }
+    record { starts_after = refl; processors_after = refl; progress_after = refl }

@@ -9,9 +9,7 @@ use lib.ListN.{length, get_or, set, length-set}
 use lib.Seq.{get_or-set_same, get_or-set_other}
 use Rattle.base.specs.Laws.Tests.{lt_or_ge}
 use Rattle.schedule.specs.Pass.{Raised}
-use Rattle.schedule.specs.Laws.Rows.Lifted.{later, not_later}
 use Rattle.schedule.proofs.planner.raise.Goals as goal
-use Rattle.schedule.proofs.planner.raise.Goals.{else-before-arrival, then-before-arrival}
 
 -- no processor's arrival is raised yet
 begun : (T finish count : ℕ) (row before : List ℕ) → Raised 0 T finish count row before before
@@ -42,7 +40,7 @@ module _ (p T finish count : ℕ) (row before now : List ℕ) (r : Raised p T fi
 
 pub loop-p-init : goal.loop-p-init
 loop-p-init c =
-    (search rules, refl, begun _ _ _ _ _)
+    (refl, begun _ _ _ _ _)
 
 pub overflow_mul-arrival : goal.overflow_mul-arrival
 overflow_mul-arrival c =
@@ -57,19 +55,11 @@ overflow_add-arrival c =
 
 pub loop-p-preserved : goal.loop-p-preserved
 loop-p-preserved c =
-    let args = c.args in
     let v = c.loop-p.invariant in
-    let stored : c.if-before-arrival.arrivals
-    ≡ max (get_or c.loop-p.arrivals (16 * args.task + c.loop-p.p) 0)
-    (args.finish + args.count * get_or args.row.now c.loop-p.p 0) =
-    (elim c.if-before-arrival.branch [
-      | then-before-arrival w ↦ w.arrivals-is ∙ later _ _ w.if-before-arrival.true
-      | else-before-arrival w ↦ w.arrivals-is ∙ not_later _ _ w.if-before-arrival.false
-    ]) in
-    let r = raises _ _ _ _ _ _ _ v.2 _ stored (search rules) in
-    (search rules, r.0 ∙ v.1, r.1)
+    let r = raises _ _ _ _ _ _ _ v.1 _ c.max.ensures (search rules) in
+    (r.0 ∙ v.0, r.1)
 
 pub returns : goal.returns
 returns c =
     let e : c.loop-p.p ≡ c.args.n = omega arith in
-    rw e at c.loop-p.invariant.2
+    rw e at c.loop-p.invariant.1

@@ -1,223 +1,158 @@
 -- `planner::run` plans: after each round the arrays are in step with the rule (`Invariant`).
 use mathlib.Core.Path.{◌≡◌, refl, sym, ◌∙◌}
-use mathlib.Core.List.{List}
-use Prim.Native.Nat.{ℕ, ◌+◌, ◌*◌, ◌-◌, ◌≤◌, ◌<◌}
-use native.Mathlib.Nat.{le_of_lt}
+use mathlib.Core.List.{List, []}
+use lib.ListN.{get_or}
+use Prim.Native.Nat.{ℕ, ◌+◌, ◌<◌}
 use native.Mathlib.Omega.{arith}
-use borrow.Author.Rules.{below_length}
-use mir.Facts.{Fits-below}
 use Rattle.base.specs.Laws.Lists.{zeros_at}
 use Rattle.graph.specs.Graph.{Runs}
 use Rattle.graph.specs.Laws.Rising.{runs_of}
 use Rattle.graph.specs.Laws.ByPlace.{counts_at}
 use Rattle.schedule.specs.declared.planner.Pair.{Pair}
-use Rattle.schedule.specs.InArrays.{InArrays, in_given_order, Plannable}
+use Rattle.schedule.specs.InArrays.{InArrays, reordered, Plannable, plannable_in_order}
+use Rattle.schedule.specs.Handed.{in_arrays, plannable}
 use Rattle.schedule.specs.Pass.{OrderIn, Room, Tables, ToPlace, Placed, tables, inbox}
 use Rattle.schedule.specs.Laws.Held.{climb, edges_there}
-use Rattle.schedule.specs.Laws.Planner.Invariant.{Invariant, holds_first, holds_last, more_rounds, clock_small, arrivals_room}
+use Rattle.schedule.specs.Laws.Planner.Invariant.{Invariant, holds_first, holds_last, clock_small, arrivals_room}
 use Rattle.schedule.specs.Laws.Planner.Invariant.{task_small, finish_small, to_place, holds_placed, holds_moved}
-use Rattle.schedule.specs.Laws.Rows.Lifted.{later, not_later}
+use Rattle.schedule.specs.Laws.Planner.Ends.{goes_down}
 use Rattle.schedule.proofs.planner.run.Goals as goal
-use Rattle.schedule.proofs.planner.run.Goals.{At-loop-low, In-loop-low, else-pair-next, then-pair-next+else-end-done}
-use Rattle.schedule.proofs.planner.run.Goals.{then-pair-next+then-end-done}
+use Rattle.schedule.proofs.planner.run.Goals.{At-loop-progress, In-loop-progress, After-max-end, Else-pair-next}
 
--- ---- in plain numbers
+-- a pair, and the ends of its run of edges, by other names
+module _ (costs : List (List ℕ)) {pair pair' : Pair} {finish low m n first last first' last' : ℕ} {to counts : List ℕ} {S : Tables}
+    (p : pair' ≡ pair) (d : first' ≡ first) (e : last' ≡ last) where
+  asked_of : ToPlace pair finish first last low m n (get_or costs pair.processor []) to counts S
+      → ToPlace pair' finish first' last' low m n (get_or costs pair'.processor []) to counts S
+  asked_of t = rw (p, d, e) t
 
--- one round more
-rounds_small : (rounds m : ℕ) → rounds < 2 * m → m ≤ 256 → rounds + 1 ≤ 512
-rounds_small rounds m h k = omega arith
-
-rounds_left : (rounds m : ℕ) → rounds < m → m - (rounds + 1) < m - rounds
-rounds_left rounds m h = omega arith
-
--- the same under other names
-carried : {A : InArrays} {starts₀ processors₀ arrivals₀ : List ℕ}
-    {starts processors busy arrivals waiting latest : List ℕ} {clock e low rounds : ℕ}
-    → Invariant A starts₀ processors₀ arrivals₀ (tables starts processors busy (inbox arrivals waiting latest)) clock e low rounds
-    → {starts' processors' arrivals' waiting' latest' busy' : List ℕ} {clock' e' low' : ℕ}
-    → starts' ≡ starts → processors' ≡ processors → arrivals' ≡ arrivals → waiting' ≡ waiting → latest' ≡ latest → busy' ≡ busy
-    → clock' ≡ clock → e' ≡ e → low' ≡ low
-    → Invariant A starts₀ processors₀ arrivals₀ (tables starts' processors' busy' (inbox arrivals' waiting' latest')) clock' e' low' rounds
-carried g hs hp ha hw hl hb hc he hm = rw (hs, hp, ha, hw, hl, hb, hc, he, hm) g
-
--- a run of edges by other names of its ends
-module _ {pair : Pair} {finish low m n : ℕ} {row to counts : List ℕ} {S : Tables} {first last first' last' : ℕ}
-    (d : first' ≡ first) (e : last' ≡ last) where
-  asked_of : ToPlace pair finish first last low m n row to counts S → ToPlace pair finish first' last' low m n row to counts S
-  asked_of t = rw (d, e) t
-
-  placed_of : {order : ℕ → ℕ} {S' : Tables} {r : ℕ} → Placed pair finish first' last' low m n order row to counts S S' r
-      → Placed pair finish first last low m n order row to counts S S' r
-  placed_of p = rw (d, e) at p
+  placed_of : {order : ℕ → ℕ} {S' : Tables} {r : ℕ}
+      → Placed pair' finish first' last' low m n order (get_or costs pair'.processor []) to counts S S' r
+      → Placed pair finish first last low m n order (get_or costs pair.processor []) to counts S S' r
+  placed_of t = rw (p, d, e) at t
 
 -- ---- what is known at the loop
 
-module _ (a : At-loop-low) where
+module _ (a : At-loop-progress) where
   abbrev A : InArrays
-  A = in_given_order a.args.order.now a.args.n a.args.tasks a.args.edges a.args.durations.now
-      a.args.from.now a.args.to.now a.args.counts.now a.args.costs
+  A = reordered (λ i. get_or a.args.order.now i 0) (in_arrays a.args.instance.now)
 
   abbrev given : Plannable A
-  given = a.requires.plannable
+  given = plannable_in_order (plannable a.args.instance.now) a.requires.ordered
 
-  abbrev room : Room a.args.tasks a.args.starts.now a.args.processors.now a.args.arrivals.now
+  abbrev room : Room a.args.instance.now.tasks a.args.starts.now a.args.processors.now a.args.arrivals.now
   room = a.requires.tasks_in_bounds.1
 
-  ordered : OrderIn a.args.tasks a.args.order.now
+  ordered : OrderIn a.args.instance.now.tasks a.args.order.now
   ordered = record {
     places = a.requires.tasks_in_bounds.0;
     below = λ i h. omega (arith, given.ordered.within i h, given.few_tasks);
   }
 
   -- the edges of each task are one run
-  edge_runs : Runs a.args.from.now a.args.tasks a.args.edges a.runs-runs.result
+  edge_runs : Runs a.args.instance.now.from.now a.args.instance.now.tasks a.args.instance.now.edges a.runs-runs.result
   edge_runs = runs_of _ _ _ (climb given) given.few_tasks (edges_there given).0
       (omega (arith, given.few_edges)) a.runs-runs.ensures
 
 -- in the loop tasks remain
-module _ (q : In-loop-low) where
-  remain : q.loop-low.low < q.args.tasks
-  remain = omega (arith, q.loop-low-test.true, q.loop-low.invariant.1.in_step.low_most)
+module _ (q : In-loop-progress) where
+  remain : q.loop-progress.progress.low < q.args.instance.now.tasks
+  remain = omega (arith, q.loop-progress-test.true, q.loop-progress.invariant.1.in_step.low_most)
 
-pub loop-low-init : goal.loop-low-init
-loop-low-init c =
-    let F = c.requires.plannable in
-    let counted = counts_at _ _ (edges_there F).1 (omega (arith, F.few_edges)) c.counts-waiting.ensures in (
-      refl,
-      holds_first c.requires.plannable c.requires.tasks_in_bounds.1 refl refl refl counted.0 counted.1 refl (zeros_at 256) refl
-          (zeros_at 16),
-    )
-
-pub slice_bounds-look-end : goal.slice_bounds-look-end
-slice_bounds-look-end c =
-    sym c.loop-low.invariant.1.busy_size
-
-pub slice_bounds-look-end-in-loop-low : goal.slice_bounds-look-end-in-loop-low
-slice_bounds-look-end-in-loop-low c =
-    sym c.loop-low.invariant.1.waiting_size
-
-pub slice_bounds-look-end-in-loop-low-2 : goal.slice_bounds-look-end-in-loop-low-2
-slice_bounds-look-end-in-loop-low-2 c =
-    sym c.loop-low.invariant.1.latest_size
-
-pub slice_bounds-look-end-in-loop-low-3 : goal.slice_bounds-look-end-in-loop-low-3
-slice_bounds-look-end-in-loop-low-3 c =
-    sym c.loop-low.invariant.0
+pub loop-progress-init : goal.loop-progress-init
+loop-progress-init c =
+    let F = plannable_in_order (plannable c.args.instance.now) c.requires.ordered in
+    let counted = counts_at _ _ (edges_there F).1 (omega (arith, F.few_edges)) c.counts.ensures in
+    (0, holds_first F c.requires.tasks_in_bounds.1 refl refl refl counted.0 counted.1 refl (zeros_at 256) refl (zeros_at 16))
 
 pub look-choice-requires : goal.look-choice-requires
 look-choice-requires c =
-    let Y = c.loop-low.invariant.1 in
+    let a = (goal.at.look-choice-requires c).At-loop-progress in
+    let Y = c.loop-progress.invariant.1 in
+    let row = ordered a in
+    let wide = arrivals_room (given a) (room a) Y in
     record {
-      n_bound = (
-        (given (goal.at.look-choice-requires c).At-loop-low).few_processors,
-        clock_small
-            (given (goal.at.look-choice-requires c).At-loop-low) (room (goal.at.look-choice-requires c).At-loop-low) Y,
-        le_of_lt
-            (remain (goal.at.look-choice-requires c).In-loop-low),
-        (given (goal.at.look-choice-requires c).At-loop-low).few_tasks,
-      );
-      busy_len = (
-        Y.busy_size,
-        Y.waiting_size,
-        Y.latest_size,
-        arrivals_room (given (goal.at.look-choice-requires c).At-loop-low)
-            (room (goal.at.look-choice-requires c).At-loop-low) Y,
-      );
-      order_in = (ordered (goal.at.look-choice-requires c).At-loop-low, c.loop-low.invariant.0);
+      clock_bound = (clock_small (given a) (room a) Y, Y.in_step.low_most, omega (arith, Y.latest_size));
+      in_order = λ i h. (omega (arith, h, row.places), row.below i h);
+      may_try = λ i h s. (row.below i h, wide);
+      processors_in_bounds = (given a).few_processors;
     }
-
-pub slice_bounds-finish-end : goal.slice_bounds-finish-end
-slice_bounds-finish-end c =
-    sym (edge_runs (goal.at.slice_bounds-finish-end c).At-loop-low).size
 
 pub finish-done-requires : goal.finish-done-requires
 finish-done-requires c =
-    let a = (goal.at.finish-done-requires c).At-loop-low in
-    let q = (goal.at.finish-done-requires c).In-loop-low in
-    let in_time : c.look-choice.result.pair.start ≤ c.look-choice.result.next = omega (arith, c.if-pair-next.true) in
-    let small = task_small (given a) (room a) c.loop-low.invariant.1 (remain q) c.look-choice.ensures in_time in
-    let there = below_length ℕ c.args.durations.now _ 256 (given a).durations_size small in
+    let a = (goal.at.finish-done-requires c).At-loop-progress in
+    let q = (goal.at.finish-done-requires c).In-loop-progress in
+    let Y = c.loop-progress.invariant.1 in
     record {
-      task_in_bounds = (there, small, (edge_runs a).size);
-      task_bound = finish_small (given a) (room a) c.loop-low.invariant.1 (remain q) c.look-choice.ensures in_time;
+      task_in_bounds = task_small (given a) (room a) Y (remain q) c.look-choice.ensures (omega (arith, c.if-pair-next.true));
+      in_time = finish_small (given a) (room a) Y (remain q) c.look-choice.ensures (omega (arith, c.if-pair-next.true));
     }
 
-pub slice_bounds-place-end : goal.slice_bounds-place-end
-slice_bounds-place-end c =
-    sym c.loop-low.invariant.1.waiting_size
-
-pub slice_bounds-place-end-then-pair-next : goal.slice_bounds-place-end-then-pair-next
-slice_bounds-place-end-then-pair-next c =
-    sym c.loop-low.invariant.1.latest_size
-
-pub slice_bounds-place-end-then-pair-next-2 : goal.slice_bounds-place-end-then-pair-next-2
-slice_bounds-place-end-then-pair-next-2 c =
-    sym c.loop-low.invariant.1.busy_size
-
-pub place-low-requires : goal.place-low-requires
-place-low-requires c =
+pub place-requires : goal.place-requires
+place-requires c =
+    let a = (goal.at.place-requires c).At-loop-progress in
+    let q = (goal.at.place-requires c).In-loop-progress in
+    let done = c.finish-done.ensures in
     record {
-      to_place = asked_of c.finish-done.ensures.first_value c.finish-done.ensures.last_value
-          (to_place (given (goal.at.place-low-requires c).At-loop-low) (room (goal.at.place-low-requires c).At-loop-low)
-          c.loop-low.invariant.1 (remain (goal.at.place-low-requires c).In-loop-low) c.look-choice.ensures
-          (omega (arith, c.if-pair-next.true)) (edge_runs (goal.at.place-low-requires c).At-loop-low)
-          c.finish-done.ensures.finish_value);
-      order_in = ordered (goal.at.place-low-requires c).At-loop-low;
+      to_place = asked_of c.args.instance.now.costs.now done.pair_value done.first_value done.last_value
+          (to_place (given a) (room a) c.loop-progress.invariant.1 (remain q) c.look-choice.ensures
+          (omega (arith, c.if-pair-next.true)) (edge_runs a) done.finish_value);
+      order_in = ordered a;
     }
 
-pub overflow_add-rounds : goal.overflow_add-rounds
-overflow_add-rounds c =
-    Fits-below tt (rounds_small _ _
-    (more_rounds (given (goal.at.overflow_add-rounds c).At-loop-low) (room (goal.at.overflow_add-rounds c).At-loop-low)
-    c.loop-low.invariant.1 (remain (goal.at.overflow_add-rounds c).In-loop-low))
-    (given (goal.at.overflow_add-rounds c).At-loop-low).few_tasks)
+-- ---- one round more
 
-pub loop-low-smaller : goal.loop-low-smaller
-loop-low-smaller c =
-    rounds_left _ _ (more_rounds (given (goal.at.loop-low-smaller c).At-loop-low) (room (goal.at.loop-low-smaller c).At-loop-low)
-    c.loop-low.invariant.1 (remain (goal.at.loop-low-smaller c).In-loop-low))
+module _ (c : After-max-end) where
+  abbrev a : At-loop-progress
+  a = (goal.at.loop-progress-preserved-then-pair-next c).At-loop-progress
 
-pub loop-low-preserved : goal.loop-low-preserved
-loop-low-preserved c =
-    let found = c.look-choice.ensures in
-    let runs = edge_runs (goal.at.loop-low-preserved c).At-loop-low in (
-      c.look-choice.auto.free ∙ c.loop-low.invariant.0,
-      (elim c.if-pair-next.branch [
-        | then-pair-next+then-end-done w ↦ carried
-            (holds_placed (given (goal.at.loop-low-preserved c).At-loop-low) (room (goal.at.loop-low-preserved c).At-loop-low)
-            c.loop-low.invariant.1 (remain (goal.at.loop-low-preserved c).In-loop-low) found (omega (arith, w.if-pair-next.true))
-            runs w.finish-done.ensures.finish_value
-            (placed_of w.finish-done.ensures.first_value w.finish-done.ensures.last_value w.place-low.ensures)
-            (later _ _ w.if-end-done.true) w.place-low.auto.arrivals w.place-low.auto.waiting w.place-low.auto.latest)
-            w.starts-is w.processors-is w.arrivals-is w.waiting-is w.latest-is w.busy-is w.clock-is w.end-is w.low-is
-        | then-pair-next+else-end-done w ↦ carried
-            (holds_placed (given (goal.at.loop-low-preserved c).At-loop-low) (room (goal.at.loop-low-preserved c).At-loop-low)
-            c.loop-low.invariant.1 (remain (goal.at.loop-low-preserved c).In-loop-low) found (omega (arith, w.if-pair-next.true))
-            runs w.finish-done.ensures.finish_value
-            (placed_of w.finish-done.ensures.first_value w.finish-done.ensures.last_value w.place-low.ensures)
-            (not_later _ _ w.if-end-done.false) w.place-low.auto.arrivals w.place-low.auto.waiting w.place-low.auto.latest)
-            w.starts-is w.processors-is w.arrivals-is w.waiting-is w.latest-is w.busy-is w.clock-is w.end-is w.low-is
-        | else-pair-next w
-            ↦ carried (holds_moved (given (goal.at.loop-low-preserved c).At-loop-low)
-            (room (goal.at.loop-low-preserved c).At-loop-low) c.loop-low.invariant.1
-            (remain (goal.at.loop-low-preserved c).In-loop-low) found (omega (arith, w.if-pair-next.false)))
-            w.starts-is w.processors-is w.arrivals-is w.waiting-is w.latest-is w.busy-is w.clock-is w.end-is w.low-is
-      ]),
-    )
+  abbrev q : In-loop-progress
+  q = (goal.at.loop-progress-preserved-then-pair-next c).In-loop-progress
 
-pub shape_of-starts : goal.shape_of-starts
-shape_of-starts c =
-    c.loop-low.invariant.1.untouched.starts_size
+  after_placed : Invariant (A a) c.args.starts.now c.args.processors.now c.args.arrivals.now
+      (tables c.place.new.starts c.place.new.processors c.place.new.progress.busy
+      (inbox c.place.new.arrivals c.place.new.progress.waiting c.place.new.latest))
+      c.place.new.progress.clock c.max-end.result c.place.new.progress.low (c.loop-progress.invariant.0 + 1)
+  after_placed =
+      let Y = c.loop-progress.invariant.1 in
+      let done = c.finish-done.ensures in
+      rw c.place.ensures.clock_after
+      (holds_placed (given a) (room a) Y (remain q) c.look-choice.ensures (omega (arith, c.if-pair-next.true)) (edge_runs a)
+      done.finish_value
+      (placed_of c.args.instance.now.costs.now done.pair_value done.first_value done.last_value c.place.ensures.placed)
+      c.max-end.ensures
+      c.place.auto.arrivals (c.place.ensures.waiting_size ∙ sym Y.waiting_size) (omega (arith, c.type_inv.latest, Y.latest_size)))
 
-pub shape_of-processors : goal.shape_of-processors
-shape_of-processors c =
-    c.loop-low.invariant.1.untouched.processors_size
+module _ (c : Else-pair-next) where
+  abbrev b : At-loop-progress
+  b = (goal.at.loop-progress-preserved c).At-loop-progress
 
-pub shape_of-arrivals : goal.shape_of-arrivals
-shape_of-arrivals c =
-    c.loop-low.invariant.1.untouched.arrivals_size
+  after_moved : Invariant (A b) c.args.starts.now c.args.processors.now c.args.arrivals.now
+      (tables c.loop-progress.starts c.loop-progress.processors c.loop-progress.progress.busy
+      (inbox c.loop-progress.arrivals c.loop-progress.progress.waiting c.loop-progress.latest))
+      c.look-choice.result.next c.loop-progress.end c.loop-progress.progress.low (c.loop-progress.invariant.0 + 1)
+  after_moved =
+      holds_moved (given b) (room b) c.loop-progress.invariant.1 (remain (goal.at.loop-progress-preserved c).In-loop-progress)
+      c.look-choice.ensures c.if-pair-next.false
+
+pub loop-progress-preserved-then-pair-next : goal.loop-progress-preserved-then-pair-next
+loop-progress-preserved-then-pair-next c =
+    (_, after_placed c)
+
+pub loop-progress-smaller-then-pair-next : goal.loop-progress-smaller-then-pair-next
+loop-progress-smaller-then-pair-next c =
+    goes_down (given (a c)) (room (a c)) c.loop-progress.invariant.1 (after_placed c) (remain (q c))
+
+pub loop-progress-preserved : goal.loop-progress-preserved
+loop-progress-preserved c =
+    (_, after_moved c)
+
+pub loop-progress-smaller : goal.loop-progress-smaller
+loop-progress-smaller c =
+    goes_down (given (b c)) (room (b c)) c.loop-progress.invariant.1 (after_moved c)
+    (remain (goal.at.loop-progress-smaller c).In-loop-progress)
 
 pub returns : goal.returns
 returns c =
-    holds_last (given (goal.at.returns c).At-loop-low) (room (goal.at.returns c).At-loop-low) c.loop-low.invariant.1
-    (omega (arith, c.loop-low-test.false))
+    let a = (goal.at.returns c).At-loop-progress in
+    holds_last (given a) (room a) c.loop-progress.invariant.1 c.loop-progress-test.false

@@ -71,18 +71,13 @@ module _ (first finish n : ℕ) (row to counts : List ℕ) where
       latest_at = λ T. latest_lifted first to k t e h finish B.latest B₁.latest latest₂ m T (s.latest_at T);
     }
 
--- the lengths stay, and what was sent along the edges before edge k has been sent
-pub record Going (first last finish n : ℕ) (row to counts : List ℕ) (B B₁ : Inbox) (k : ℕ) : Type 0 where
-  pub from_first : first ≤ k
-  pub to_last : k ≤ last
+-- the length of the arrivals stays, and what was sent along the edges before edge k has been sent
+pub record Going (first finish n : ℕ) (row to counts : List ℕ) (B B₁ : Inbox) (k : ℕ) : Type 0 where
   pub arrivals_size : length B₁.arrivals ≡ length B.arrivals
-  pub waiting_size : length B₁.waiting ≡ length B.waiting
-  pub latest_size : length B₁.latest ≡ length B.latest
+  pub waiting_size : length B₁.waiting ≡ 256
+  pub latest_size : length B₁.latest ≡ 256
   pub sent : Sent first k finish n row to counts B B₁
 
 abbrev pub invariant-loop-k : goal.invariant-loop-k
-invariant-loop-k l = Going l.first l.last l.finish l.n l.row l.to l.counts
+invariant-loop-k l = Going l.done.first l.done.finish l.instance.processors l.row l.instance.to.now l.instance.counts.now
     (inbox l.initial.arrivals l.initial.waiting l.initial.latest) (inbox l.arrivals l.waiting l.latest) l.k
-
-abbrev pub decreases-loop-k : goal.decreases-loop-k
-decreases-loop-k l = l.last - l.k

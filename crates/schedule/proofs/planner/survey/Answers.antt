@@ -15,7 +15,7 @@ use Rattle.base.specs.Laws.Values.{values_more, values_same}
 use Rattle.schedule.specs.Pass.{Surveyed, soonest, free_among}
 use Rattle.schedule.proofs.planner.survey.Invariants.{Going}
 use Rattle.schedule.proofs.planner.survey.Goals as goal
-use Rattle.schedule.proofs.planner.survey.Goals.{else-finish-clock+else-finish-next, else-finish-clock+then-finish-next, then-finish-clock}
+use Rattle.schedule.proofs.planner.survey.Goals.{else-finish-clock, then-finish-clock}
 
 module _ (busy : List ℕ) (clock p : ℕ) where
   free_more : get_or busy p 0 ≤ clock → free_among busy clock (p + 1) ≡ free_among busy clock p ++ (p ∷ [])
@@ -41,18 +41,15 @@ same busy n clock p free free' next next' count count' a b c g = rw (a, b, c) g
 
 begun : (busy : List ℕ) (n clock : ℕ) (free : List ℕ) → length free ≡ 16 → Going busy n clock free 4294967295 0 0
 unfolding soonest free_among filter upto values
-begun busy n clock free h = record { few = omega arith; fewer = omega arith; room = h; soon = refl; listed = refl }
+begun busy n clock free h = record { fewer = omega arith; room = h; soon = refl; listed = refl }
 
 module _ (busy : List ℕ) (n clock : ℕ) (free : List ℕ) (next count p : ℕ) (g : Going busy n clock free next count p) where
-  done : n ≤ p → Surveyed busy n clock free (record { next = next; free = count })
-  done h =
-      let e : p ≡ n = omega (arith, g.few) in
-      record { next = rw e at g.soon; few = omega (arith, g.few, g.fewer); listed = rw e at g.listed }
+  done : p ≡ n → Surveyed busy n clock free (record { next = next; free = count })
+  done e = record { next = rw e at g.soon; few = omega (arith, g.fewer); listed = rw e at g.listed }
 
   module _ (h : p < n) (few : n ≤ 16) where
     idle : get_or busy p 0 ≤ clock → Going busy n clock (set free count p) next (count + 1) (p + 1)
     idle k = record {
-      few = omega arith;
       fewer = omega (arith, g.fewer);
       room = length-set free count p ∙ g.room;
       soon = g.soon ∙ sym (soonest_same busy clock p k);
@@ -64,18 +61,8 @@ module _ (busy : List ℕ) (n clock : ℕ) (free : List ℕ) (next count p : ℕ
           ∙ rw (kept, new, g.listed) (sym (free_more busy clock p k));
     }
 
-    sooner : clock < get_or busy p 0 → get_or busy p 0 < next → Going busy n clock free (get_or busy p 0) count (p + 1)
-    sooner k s = record {
-      few = omega arith;
-      fewer = omega (arith, g.fewer);
-      room = g.room;
-      soon = omega (arith, g.soon, soonest_more busy clock p k);
-      listed = g.listed ∙ sym (free_same busy clock p k);
-    }
-
-    later : clock < get_or busy p 0 → next ≤ get_or busy p 0 → Going busy n clock free next count (p + 1)
-    later k s = record {
-      few = omega arith;
+    runs_on : clock < get_or busy p 0 → Going busy n clock free (min next (get_or busy p 0)) count (p + 1)
+    runs_on k = record {
       fewer = omega (arith, g.fewer);
       room = g.room;
       soon = omega (arith, g.soon, soonest_more busy clock p k);
@@ -93,14 +80,11 @@ loop-p-preserved c =
       | then-finish-clock w ↦
           same _ _ _ _ _ _ _ _ _ _ w.free-is w.next-is w.count-is
           (idle _ _ _ _ _ _ _ g (search rules) (search rules) w.if-finish-clock.true)
-      | else-finish-clock+then-finish-next w ↦
-          same _ _ _ _ _ _ _ _ _ _ w.free-is w.next-is w.count-is
-          (sooner _ _ _ _ _ _ _ g (search rules) (search rules) w.if-finish-clock.false w.if-finish-next.true)
-      | else-finish-clock+else-finish-next w ↦
-          same _ _ _ _ _ _ _ _ _ _ w.free-is w.next-is w.count-is
-          (later _ _ _ _ _ _ _ g (search rules) (search rules) w.if-finish-clock.false w.if-finish-next.false)
+      | else-finish-clock w ↦
+          same _ _ _ _ _ _ _ _ _ _ w.free-is (w.next-is ∙ w.min-next.ensures) w.count-is
+          (runs_on _ _ _ _ _ _ _ g (search rules) (search rules) w.if-finish-clock.false)
     ])
 
 pub returns : goal.returns
 returns c =
-    done _ _ _ _ _ _ _ c.loop-p.invariant c.loop-p-test.false
+    done _ _ _ _ _ _ _ c.loop-p.invariant (omega arith)

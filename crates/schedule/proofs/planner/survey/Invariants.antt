@@ -1,7 +1,7 @@
 -- `planner::survey`: the loop keeps the next moment and the free processors among those looked at; a turn adds one processor to each.
 use mathlib.Core.Path.{◌≡◌}
 use mathlib.Core.List.{List}
-use Prim.Native.Nat.{ℕ, ◌-◌, ◌≤◌}
+use Prim.Native.Nat.{ℕ, ◌≤◌}
 use lib.ListN.{length, get_or}
 use Rattle.base.specs.Lists.{values}
 use Rattle.schedule.specs.Pass.{soonest, free_among}
@@ -9,7 +9,6 @@ use Rattle.schedule.proofs.planner.survey.Given as goal
 
 -- what is known of the first p processors
 pub record Going (busy : List ℕ) (n clock : ℕ) (free : List ℕ) (next count p : ℕ) : Type 0 where
-  pub few : p ≤ n
   pub fewer : count ≤ p
   pub room : length free ≡ 16
   pub soon : next ≡ soonest busy clock p
@@ -17,6 +16,3 @@ pub record Going (busy : List ℕ) (n clock : ℕ) (free : List ℕ) (next count
 
 abbrev pub invariant-loop-p : goal.invariant-loop-p
 invariant-loop-p l = Going l.busy l.n l.clock l.free l.next l.count l.p
-
-abbrev pub decreases-loop-p : goal.decreases-loop-p
-decreases-loop-p l = l.n - l.p

@@ -8,34 +8,34 @@ use Rattle.schedule.proofs.planner.try_row.Invariants.{whole, ended, early, soon
 use Rattle.schedule.proofs.planner.try_row.Goals as goal
 use Rattle.schedule.proofs.planner.try_row.Goals.{else-arrival-best, then-arrival-best}
 
-pub loop-i-init : goal.loop-i-init
-loop-i-init c =
-    (search rules, search rules, ap (first_best _) (whole _ _ _ _ _))
+pub loop-p-init : goal.loop-p-init
+loop-p-init c =
+    (search rules, ap (first_best _) (whole _ _ _ _ _))
 
 pub offset_bounds-row-p : goal.offset_bounds-row-p
 offset_bounds-row-p c =
-    let b = c.requires.by_index.0 c.loop-i.i (search rules) in
+    let b = c.requires.by_index.0 c.loop-p.p-index (search rules) in
     search rules
 
 pub bounds-row-p : goal.bounds-row-p
 bounds-row-p c =
-    let b = c.requires.by_index.0 c.loop-i.i (search rules) in
+    let b = c.requires.by_index.0 c.loop-p.p-index (search rules) in
     search rules
 
 pub returns-then-arrival-clock : goal.returns-then-arrival-clock
 returns-then-arrival-clock c =
-    sym (early _ _ _ _ _ _ _ refl (search rules) _ c.loop-i.invariant.1 c.if-arrival-clock.true) ∙ c.loop-i.invariant.2
+    sym (early _ _ _ _ _ _ _ refl (search rules) _ c.loop-p.invariant.0 c.if-arrival-clock.true) ∙ c.loop-p.invariant.1
 
-pub loop-i-preserved : goal.loop-i-preserved
-loop-i-preserved c =
+pub loop-p-preserved : goal.loop-p-preserved
+loop-p-preserved c =
     (elim c.if-arrival-best.branch [
-      | then-arrival-best w ↦ sooner _ _ _ _ _ _ _ refl (search rules) _ _ _ c.loop-i.invariant.1 c.loop-i.invariant.2
+      | then-arrival-best w ↦ sooner _ _ _ _ _ _ _ refl (search rules) _ _ _ c.loop-p.invariant.0 c.loop-p.invariant.1
           c.if-arrival-clock.false (omega (arith, w.if-arrival-best.true)) w.best-is
       | else-arrival-best w ↦ later _ _ _ _ _ _ _ refl
-          (search rules) _ _ _ c.loop-i.invariant.1 c.loop-i.invariant.2
+          (search rules) _ _ _ c.loop-p.invariant.0 c.loop-p.invariant.1
           c.if-arrival-clock.false (omega (arith, w.if-arrival-best.false)) w.best-is
     ])
 
 pub returns : goal.returns
 returns c =
-    sym (ended _ _ _ _ _ _ _ c.loop-i-test.false) ∙ c.loop-i.invariant.2
+    sym (ended _ _ _ _ _ _ _ c.loop-p-test.false) ∙ c.loop-p.invariant.1

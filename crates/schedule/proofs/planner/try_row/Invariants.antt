@@ -8,7 +8,7 @@ use native.Mathlib.Numerals.{add-one}
 use native.Mathlib.Omega.{arith}
 use borrow.Author.Tests.{lt-ltb, le-ltb}
 use lib.Dec.{ltb}
-use lib.ListN.{get_or}
+use lib.ListN.{length, get_or}
 use Rattle.base.specs.Choice.{pick}
 use Rattle.base.specs.Lists.{values}
 use Rattle.base.specs.Laws.Values.{for_values, values_front, values_none}
@@ -65,17 +65,14 @@ module _ (clock : ℕ) (at : ℕ → ℕ) (free : List ℕ) (count task : ℕ) w
     -- a turn: with the best so far b, and the answer r
     module _ (b b' r : Pair) (l : clock < b.start) (e : first_best b (rest i) ≡ r) (k : clock < arrival) where
       pub sooner : arrival < b.start → b' ≡ pair arrival task p
-          → (i + 1 ≤ count) × (clock < b'.start) × (first_best b' (rest (i + 1)) ≡ r)
-      sooner s q = rw q (omega arith, k, rw (next b _ (after_clock k), lt-ltb arrival b.start s) at e)
+          → (clock < b'.start) × (first_best b' (rest (i + 1)) ≡ r)
+      sooner s q = rw q (k, rw (next b _ (after_clock k), lt-ltb arrival b.start s) at e)
 
       pub later : b.start ≤ arrival → b' ≡ b
-          → (i + 1 ≤ count) × (clock < b'.start) × (first_best b' (rest (i + 1)) ≡ r)
-      later s q = rw q (omega arith, l, rw (next b _ (after_clock k), le-ltb arrival b.start s) at e)
+          → (clock < b'.start) × (first_best b' (rest (i + 1)) ≡ r)
+      later s q = rw q (l, rw (next b _ (after_clock k), le-ltb arrival b.start s) at e)
 
-abbrev pub invariant-loop-i : goal.invariant-loop-i
-invariant-loop-i l = (l.i ≤ l.count) × (l.clock < l.best.start)
-    × (first_best l.best (rest l.clock (λ P. get_or l.row P 0) l.free l.count l.task l.i)
-    ≡ first_best l.initial.best (row_by l.clock (λ P. get_or l.row P 0) l.free l.count l.task))
-
-abbrev pub decreases-loop-i : goal.decreases-loop-i
-decreases-loop-i l = l.count - l.i
+abbrev pub invariant-loop-p : goal.invariant-loop-p
+invariant-loop-p l = (l.clock < l.best.start)
+    × (first_best l.best (rest l.clock (λ P. get_or l.row P 0) l.free (length l.free) l.task l.p-index)
+    ≡ first_best l.initial.best (row_by l.clock (λ P. get_or l.row P 0) l.free (length l.free) l.task))

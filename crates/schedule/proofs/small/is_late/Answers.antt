@@ -6,7 +6,7 @@ use Prim.Native.Nat.{ℕ, ◌+◌, ◌*◌, ◌≤◌, ◌<◌}
 use native.Mathlib.Omega.{arith}
 use borrow.Author.Rules.{rules}
 use lib.ListN.{get_or}
-use Rattle.base.specs.Laws.Tests.{lt_or_ge, impossible}
+use Rattle.base.specs.Laws.Tests.{lt_or_ge}
 use Rattle.schedule.proofs.small.is_late.Invariants.{Late}
 use Rattle.schedule.proofs.small.is_late.Goals as goal
 
@@ -26,37 +26,24 @@ module _ (start finish messages : ℕ) (row free : List ℕ) where
       → (j : ℕ) → j < count → start ≤ finish + messages * get_or row (get_or free j 0) 0
   ended i count v h j k = v.late j (omega arith)
 
-pub loop-i-init : goal.loop-i-init
-loop-i-init c =
-    (search rules, begun _ _ _ _ _)
+pub loop-p-init : goal.loop-p-init
+loop-p-init c =
+    begun _ _ _ _ _
 
-pub offset_bounds-row-p : goal.offset_bounds-row-p
-offset_bounds-row-p c =
-    let b = c.requires.row_len.2 c.loop-i.i (search rules) in
+pub offset_bounds-bundle-p : goal.offset_bounds-bundle-p
+offset_bounds-bundle-p c =
+    let b = c.requires.free_in_bounds c.loop-p.p-index c.loop-p-test.true in
     search rules
 
-pub bounds-row-p : goal.bounds-row-p
-bounds-row-p c =
-    let b = c.requires.row_len.2 c.loop-i.i (search rules) in
+pub bounds-bundle-p : goal.bounds-bundle-p
+bounds-bundle-p c =
+    let b = c.requires.free_in_bounds c.loop-p.p-index c.loop-p-test.true in
     search rules
 
-pub overflow_mul-messages : goal.overflow_mul-messages
-overflow_mul-messages c =
-    record { fits = omega (arith, c.requires.finish_le_most_finish.1 (get_or c.args.free.now c.loop-i.i 0)) }
-
-pub overflow_add-finish : goal.overflow_add-finish
-overflow_add-finish c =
-    let near = c.requires.finish_le_most_finish.1 (get_or c.args.free.now c.loop-i.i 0) in
-    record { fits = omega (arith, c.requires.finish_le_most_finish.0, near) }
-
-pub returns-then-finish-messages : goal.returns-then-finish-messages
-returns-then-finish-messages c =
-    λ e. impossible e
-
-pub loop-i-preserved : goal.loop-i-preserved
-loop-i-preserved c =
-    (search rules, turn _ _ _ _ _ _ _ c.loop-i.invariant.1 refl (omega (arith, c.if-finish-messages.false)))
+pub loop-p-preserved : goal.loop-p-preserved
+loop-p-preserved c =
+    turn _ _ _ _ _ _ _ c.loop-p.invariant refl c.if-finish-messages.false
 
 pub returns : goal.returns
 returns c =
-    λ _. ended _ _ _ _ _ _ _ c.loop-i.invariant.1 (omega (arith, c.loop-i-test.false))
+    λ _. ended _ _ _ _ _ _ _ c.loop-p.invariant c.loop-p-test.false

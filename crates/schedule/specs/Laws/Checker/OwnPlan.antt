@@ -12,7 +12,7 @@ use Rattle.etf.specs.Instance.{Instance, tasks}
 use Rattle.etf.specs.Schedule.{schedule_of, by_task}
 use Rattle.etf.specs.OfJob.{instance, TieRule}
 use Rattle.etf.proofs.Jobs.{same_tasks, planned_accepted}
-use Rattle.schedule.specs.declared.Checked.TheVariants.{Yes}
+use Rattle.schedule.specs.Answers.Checked.{Yes}
 use Rattle.schedule.specs.Call.{start_of, processor_of}
 use Rattle.schedule.specs.Check.{check_of, checked_as, check_for}
 use Rattle.schedule.specs.Laws.Checker.Answer.{check_of_same}

@@ -17,7 +17,8 @@ use Rattle.schedule.specs.declared.planner.Pair.{Pair}
 use Rattle.schedule.specs.declared.planner.Choice.{Choice}
 use Rattle.schedule.specs.InArrays.{InArrays, instance_in, Plannable}
 use Rattle.schedule.specs.Call.{called}
-use Rattle.schedule.specs.Pass.{Looked, never, Sent, ToSend, ToPlace, Placed, Room, run_call, Tables, marked}
+use Rattle.schedule.specs.Pass.{Looked, table_arrival, row_of, row_by, pair_at, never}
+use Rattle.schedule.specs.Pass.{Sent, ToSend, ToPlace, Placed, Room, run_call, Tables, marked}
 use Rattle.schedule.specs.Laws.Held.{held_tasks, timed, within, edges_there, well}
 use Rattle.schedule.specs.Laws.Held.{no_clock_passes, no_finish_passes, no_arrival_passes}
 use Rattle.schedule.specs.Laws.Planner.Simulation.{state, never_or, pair_of, InStep, Untouched}
@@ -87,7 +88,7 @@ module _ {A : InArrays} (F : Plannable A) {starts₀ processors₀ arrivals₀ :
     finish_by u h = no_finish_passes F rounds u (subst (λ (st : State). u ∈ st.placements) (sym Y.ran) h)
 
     module _ (more : low < A.tasks) where
-      incomplete : Holds (not (complete I ps))
+      pub incomplete : Holds (not (complete I ps))
       incomplete = incomplete_is F Y.in_step more
 
       pub more_rounds : rounds < 2 * A.tasks
@@ -118,7 +119,8 @@ module _ {A : InArrays} (F : Plannable A) {starts₀ processors₀ arrivals₀ :
       in_order : (i : ℕ) → i < A.tasks → A.order i < tasks I
       in_order i h = omega (arith, F.ordered.within i h, held_tasks F)
 
-      module _ {r : Choice} (L : Looked clock low A.tasks A.processors A.order S.inbox S.busy r) where
+      module _ {r : Choice}
+          (L : Looked clock low A.tasks A.processors A.order (table_arrival S.inbox.arrivals) S.inbox.waiting S.inbox.latest S.busy r) where
         abbrev pair : Pair
         pair = r.pair
 
@@ -128,7 +130,7 @@ module _ {A : InArrays} (F : Plannable A) {starts₀ processors₀ arrivals₀ :
 
         -- the pair that the search found
         choice_is : pair ≡ pair_of (choice I clock ps)
-        unfolding instance_in
+        unfolding instance_in row_of row_by pair_at
         choice_is =
             L.found
             ∙ search_is I clock ps A.tasks A.order refl in_order start_small

@@ -1,20 +1,22 @@
 -- The search for a pair: what is tried first and what is left, and that a pair which nothing beats stays. By induction on what is left.
 -- A loop keeps that the search over the places that are left, from the best so far, gives the answer.
-use Rattle.std.specs.Prelude.{Bool, ◌≡◌, List, [], ◌∷◌, get_or}
+use Rattle.std.specs.Prelude.{Bool, ◌≡◌, List, [], ◌∷◌, length, get_or, take}
 use Rattle.std.proofs.Math.Bool.{true, false}
+use Rattle.std.proofs.Math.Dec.{leb, eqb, le→leb, T as Holds}
 use Rattle.std.proofs.Math.Path.{refl, sym}
-use Rattle.std.proofs.Common.{subst, ◌∙◌}
-use Prim.Native.Nat.{ℕ, zero, suc, ◌+◌, ◌*◌, ◌-◌, ◌≤◌, ◌<◌}
+use Rattle.std.proofs.Common.{subst, ◌∙◌, length-take-le, get_or-take}
+use Prim.Native.Nat.{ℕ, zero, suc, ◌+◌, ◌-◌, ◌≤◌, ◌<◌}
 use Rattle.std.proofs.Math.Numerals.{add-one}
 use native.Mathlib.Omega.{arith}
 use borrow.Author.Tests.{le-ltb, le-leb, lt-leb, eq-eqb, ne_eqb}
 use Rattle.base.specs.Choice.{pick}
 use Rattle.base.specs.Lists.{values, ◌∈◌, here, there, upto}
+use Rattle.base.specs.Laws.Tests.{both, eq→eqb}
 use Rattle.base.specs.Laws.Lists.{upto_of, filter_of}
 use Rattle.base.specs.Laws.Values.{for_values, value_in, values_same}
 use Rattle.schedule.specs.declared.planner.Moment.{Moment}
 use Rattle.schedule.specs.declared.planner.Pair.{Pair}
-use Rattle.schedule.specs.Pass.{Surveyed, free_among, pair_at, first_best, row_of, row_by, can_start, searched}
+use Rattle.schedule.specs.Pass.{Surveyed, free_among, first_best, row_by, can_start, searched}
 
 -- ---- the first of smallest start
 
@@ -23,17 +25,6 @@ pub first_best_stays : (b : Pair) (l : List Pair) → ((x : Pair) → x ∈ l �
 unfolding first_best
 first_best_stays b [] h = refl
 first_best_stays b (x ∷ xs) h = simp (le-ltb _ _ (h x (here refl))) (first_best_stays b xs (λ y k. h y (there k)))
-
--- no pair starts before the clock
-pub row_late : (clock : ℕ) (arrivals free : List ℕ) (k T : ℕ) (x : Pair) → x ∈ row_of clock arrivals free k T → clock ≤ x.start
-unfolding row_of pair_at
-row_late clock arrivals free k T =
-    for_values (λ i. pair_at clock arrivals T (get_or free i 0)) (λ x. clock ≤ x.start) 0 k (λ n p q. omega arith)
-
--- with no free processor there is no pair
-pub row_none : (clock : ℕ) (arrivals free : List ℕ) (k T : ℕ) (x : Pair) → x ∈ row_of clock arrivals free k T → k ≡ 0 → ⊥
-unfolding row_of
-row_none clock arrivals free k T x h e = for_values _ (λ x. ⊥) 0 k (λ n p q. absurd (omega arith)) x h
 
 -- the free processors that are listed are among the n that were looked over
 pub listed_below : (busy : List ℕ) (n clock : ℕ) (free : List ℕ) (k : ℕ) → values (λ i. get_or free i 0) 0 k ≡ free_among busy clock n
@@ -47,6 +38,24 @@ pub free_below : (busy : List ℕ) (n clock : ℕ) (free : List ℕ) (r : Moment
     → (i : ℕ) → i < r.free → get_or free i 0 < n
 free_below busy n clock free r s = listed_below busy n clock free r.free s.listed
 
+-- the free processors by themselves, cut off the places that they were listed in
+pub record Freed (busy : List ℕ) (n clock : ℕ) (free : List ℕ) : Type 0 where
+  pub listed : values (λ i. get_or free i 0) 0 (length free) ≡ free_among busy clock n
+  pub below : (i : ℕ) → i < length free → get_or free i 0 < n
+
+pub freed : {busy : List ℕ} {n clock : ℕ} {free : List ℕ} {r : Moment} → Surveyed busy n clock free r → r.free ≤ length free
+    → Freed busy n clock (take r.free free)
+freed {busy} {n} {clock} {free} {r} s h = record {
+  listed =
+      rw size
+      (values_same (λ i. get_or (take r.free free) i 0) (λ i. get_or free i 0) 0 r.free
+      (λ i a b. get_or-take r.free free i 0 (omega arith)) ∙ s.listed);
+  below = λ i b. let k : i < r.free = omega (arith, size) in rw (get_or-take r.free free i 0 k) (free_below busy n clock free r s i k);
+}
+  where
+    size : length (take r.free free) ≡ r.free
+    size = length-take-le r.free free h
+
 -- ---- rows by the arrival at each processor
 
 -- the same arrivals, the same row
@@ -55,16 +64,12 @@ pub row_by_same : (clock : ℕ) (f g : ℕ → ℕ) (free : List ℕ) (k T : ℕ
 unfolding row_by
 row_by_same clock f g free k T h = values_same _ _ 0 k (λ i p q. rw (h i (omega arith)))
 
+-- no pair starts before the clock
 pub row_by_late : (clock : ℕ) (f : ℕ → ℕ) (free : List ℕ) (k T : ℕ) (x : Pair) → x ∈ row_by clock f free k T → clock ≤ x.start
 unfolding row_by
 row_by_late clock f free k T = for_values _ (λ x. clock ≤ x.start) 0 k (λ n p q. omega arith)
 
--- a row of the table of arrivals
-pub row_in_place : (clock : ℕ) (arrivals free : List ℕ) (k T : ℕ)
-    → row_by clock (λ P. get_or arrivals (16 * T + P) 0) free k T ≡ row_of clock arrivals free k T
-unfolding row_of pair_at row_by
-row_in_place clock arrivals free k T = refl
-
+-- with no free processor there is no pair
 pub row_by_none : (clock : ℕ) (f : ℕ → ℕ) (free : List ℕ) (k T : ℕ) (x : Pair) → x ∈ row_by clock f free k T → k ≡ 0 → ⊥
 unfolding row_by
 row_by_none clock f free k T x h e = for_values _ (λ x. ⊥) 0 k (λ n p q. absurd (omega arith)) x h
@@ -98,6 +103,13 @@ module _ (clock : ℕ) (waiting latest : List ℕ) (order : ℕ → ℕ) (row : 
   unfolding searched
   search_none i n b h = let e : n - i ≡ 0 = omega arith in rw e
 
+-- a task that waits for nothing, and what it waited for has finished
+pub starts_now : (clock : ℕ) (waiting latest : List ℕ) (T : ℕ) → get_or waiting T 0 ≡ 0 → get_or latest T 0 ≤ clock
+    → Holds (can_start clock waiting latest T)
+unfolding can_start
+starts_now clock waiting latest T w l =
+    both (eqb (get_or waiting T 0) 0) (leb (get_or latest T 0) clock) (eq→eqb _ _ w) (le→leb _ _ l)
+
 -- ---- a search that goes on place by place, over any rows
 
 module _ (clock : ℕ) (waiting latest : List ℕ) (order : ℕ → ℕ) (row : ℕ → List Pair) where
@@ -114,9 +126,9 @@ module _ (clock : ℕ) (waiting latest : List ℕ) (order : ℕ → ℕ) (row : 
   from_ended n t b h = search_none clock waiting latest order row t n b h
 
   -- the invariant of a pair that is b
-  pub from_same : (n t : ℕ) (b b' r : Pair) → b' ≡ b → t < n → clock < b.start → search_from n (t + 1) b ≡ r →
-      (t + 1 ≤ n) × (clock < b'.start) × (search_from n (t + 1) b' ≡ r)
-  from_same n t b b' r q h l e = rw q (omega arith, l, e)
+  pub from_same : (n t : ℕ) (b b' r : Pair) → b' ≡ b → clock < b.start → search_from n (t + 1) b ≡ r →
+      (clock < b'.start) × (search_from n (t + 1) b' ≡ r)
+  from_same n t b b' r q l e = rw q (l, e)
 
   -- a turn: with the best so far b, and the answer r
   module _ (n t : ℕ) (b r : Pair) (h : t < n) (e : search_from n t b ≡ r) where

@@ -27,17 +27,18 @@ use Rattle.schedule.specs.declared.planner.Pair.{Pair}
 use Rattle.schedule.specs.declared.planner.Choice.{Choice}
 use Rattle.schedule.specs.InArrays.{InArrays, instance_in, Plannable}
 use Rattle.schedule.specs.Call.{Call, laid_out_call}
-use Rattle.schedule.specs.Pass.{never, first_best, no_pair, row_of, row_by, can_start, searched, sent_to, placed_mark, Room}
-use Rattle.schedule.specs.Pass.{Looked, Sent, ToPlace, Placed, inbox, Tables, tables, marked}
-use Rattle.schedule.specs.SmallPass.{Sources, sources, Known, sent_at, sent_for, worked_out, Walkable, LookedOut, Told, Sheet}
+use Rattle.schedule.specs.Pass.{never, first_best, no_pair, row_by, can_start, searched, sent_to, placed_mark, Room}
+use Rattle.schedule.specs.Pass.{Looked, table_arrival, Sent, ToPlace, Placed, inbox, Tables, tables, marked}
+use Rattle.schedule.specs.SmallPass.{Sources, sources, Known, sent_at, sent_for, worked_out, Walkable, Told, Sheet}
 use Rattle.schedule.specs.SmallPass.{ToEnter, Entered, SmallRoom, SmallRun}
 use Rattle.schedule.specs.Laws.Held.{held_tasks, held_few, edges_there, edge_into, within}
 use Rattle.schedule.specs.Laws.Planner.Simulation.{InStep, sends, reached}
 use Rattle.schedule.specs.Laws.Planner.ReadOff.{ready_is}
-use Rattle.schedule.specs.Laws.Planner.SearchSteps.{listed_below, row_by_same, row_in_place}
+use Rattle.schedule.specs.Laws.Planner.SearchSteps.{listed_below, row_by_same}
 use Rattle.schedule.specs.Laws.Planner.EdgesOfTask.{first_edge, last_edge, last_most}
 use Rattle.schedule.specs.Laws.Planner.Invariant.{Invariant, holds_first, holds_last, holds_moved, holds_placed, sound, finish_by}
-use Rattle.schedule.specs.Laws.Planner.Invariant.{ran_on, moved_on, clock_small, more_rounds, chosen_below}
+use Rattle.schedule.specs.Laws.Planner.Invariant.{ran_on, moved_on, clock_small, chosen_below}
+use Rattle.schedule.specs.Laws.Planner.Ends.{to_go, goes_down}
 use Rattle.schedule.specs.Laws.Planner.Invariant.{task_small, finish_small, to_place, finish_is}
 
 -- ---- the latest finishes, as the table's planner has them: a list of 256
@@ -254,8 +255,10 @@ module _ {A : InArrays} (F : Plannable A) {starts₀ processors₀ scratch₀ : 
     pub clock_low : clock < never
     clock_low = clock_small F table_room Y.inner
 
-    pub rounds_low : low < A.tasks → rounds < 2 * A.tasks
-    rounds_low more = more_rounds F table_room Y.inner more
+    -- a round brings down what is left to do
+    pub goes_down_low : {H' : Sheet} {clock' e' low' : ℕ} → Holding H' clock' e' low' (rounds + 1) → low < A.tasks
+        → to_go A.tasks H'.waiting clock' < to_go A.tasks H.waiting clock
+    goes_down_low Y' more = goes_down F table_room Y.inner Y'.inner more
 
     -- ---- the look
 
@@ -333,16 +336,18 @@ module _ {A : InArrays} (F : Plannable A) {starts₀ processors₀ scratch₀ : 
           known = known T below (subst Holds (same_start T few) starts);
         }
 
-    module _ {r : Choice} (L : LookedOut clock low A.tasks A.processors A.order (sources_of H) H.waiting H.busy r) where
+    module _ {r : Choice} (L : Looked clock low A.tasks A.processors A.order (worked_out (sources_of H)) H.waiting H.scratch H.busy r) where
       -- it is the look of the planner that has the table
-      looked : low ≤ A.tasks → Looked clock low A.tasks A.processors A.order S.inbox H.busy r
+      looked : low ≤ A.tasks
+          → Looked clock low A.tasks A.processors A.order (table_arrival Y.table) H.waiting (latest_in H.scratch) H.busy r
       looked most-low = record {
         free = L.free;
         count = L.count;
         next = L.next;
         listed = L.listed;
         found = L.found ∙ searched_same clock H.waiting H.scratch (latest_in H.scratch) A.order
-            (λ T. row_by clock (worked_out (sources_of H) T) L.free L.count T) (row_of clock Y.table L.free L.count)
+            (λ T. row_by clock (worked_out (sources_of H) T) L.free L.count T)
+            (λ T. row_by clock (table_arrival Y.table T) L.free L.count T)
             low (A.tasks - low) no_pair
             (λ j h. same_start (A.order j) (omega (arith, in_order j (omega arith), F.few_tasks)))
             (λ j h s. row_same (A.order j) (in_order j (omega arith)) s);
@@ -352,15 +357,14 @@ module _ {A : InArrays} (F : Plannable A) {starts₀ processors₀ scratch₀ : 
           in_order j h = F.ordered.within j h
 
           row_same : (T : ℕ) → T < A.tasks → Holds (can_start clock H.waiting (latest_in H.scratch) T)
-              → row_by clock (worked_out (sources_of H) T) L.free L.count T ≡ row_of clock Y.table L.free L.count T
+              → row_by clock (worked_out (sources_of H) T) L.free L.count T ≡ row_by clock (table_arrival Y.table T) L.free L.count T
           row_same T b s =
-              row_by_same clock (worked_out (sources_of H) T) (λ P. get_or Y.table (16 * T + P) 0) L.free L.count T
+              row_by_same clock (worked_out (sources_of H) T) (table_arrival Y.table T) L.free L.count T
               (λ i h. same_arrival T b s (get_or L.free i 0)
               (listed_below H.busy A.processors clock L.free L.count L.listed i h))
-              ∙ row_in_place clock Y.table L.free L.count T
 
       module _ (more : low < A.tasks) where
-        abbrev table_look : Looked clock low A.tasks A.processors A.order S.inbox H.busy r
+        abbrev table_look : Looked clock low A.tasks A.processors A.order (table_arrival Y.table) H.waiting (latest_in H.scratch) H.busy r
         table_look = looked (omega arith)
 
         -- the choice starts too late: the clock moves

@@ -2,6 +2,7 @@
 use Rattle.std.specs.Prelude.{◌≡◌, ◌⊎◌, Bool, true, false, ◌||◌}
 use Rattle.std.proofs.Math.Path.{refl, ap}
 use Rattle.std.proofs.Common.{◌∙◌, subst, inl, inr}
+use Rattle.std.specs.List.{list_any, range_with_len}
 use Prim.Native.Nat.{ℕ, zero, suc, ◌+◌, ◌-◌, ◌≤◌, ◌<◌}
 use Rattle.std.proofs.Math.Numerals.{add-one}
 use native.Mathlib.Omega.{arith}
@@ -31,10 +32,7 @@ module _ (f : ℕ → Bool) where
       go (inl q) r = (i, omega arith, omega arith, q)
       go (inr q) r = let z = r q in (z.0, omega (arith, z.1), omega (arith, z.2), z.3)
 
-  -- a loop over the places from 0 to before m that stops where the test passes: all are left, none is, the test passes, it fails
-  pub all_left : (m : ℕ) → some_in_places f 0 (m - 0) ≡ some_in_places f 0 m
-  all_left m = let e : m - 0 ≡ m = omega arith in rw e
-
+  -- a loop over the places to before m: none is left, the test passes, it fails
   pub none_left : (i m : ℕ) → m ≤ i → some_in_places f i (m - i) ≡ false
   unfolding some_in_places
   none_left i m h = let e : m - i ≡ 0 = omega arith in rw e
@@ -46,6 +44,12 @@ module _ (f : ℕ → Bool) where
   pub passed : (i m : ℕ) → i < m → f i ≡ false → some_in_places f i (m - i) ≡ some_in_places f (i + 1) (m - (i + 1))
   unfolding some_in_places
   passed i m h t = let e : m - i ≡ suc (m - (i + 1)) = omega arith in rw (e, t, ← add-one i)
+
+-- as `any` over a range asks it
+pub any_in_range : (f : ℕ → Bool) (i k : ℕ) → list_any f (range_with_len i k) ≡ some_in_places f i k
+unfolding some_in_places
+any_in_range f i zero = refl
+any_in_range f i (suc k) = rw (any_in_range f (i + 1) k, add-one)
 
 pub some_same : (f g : ℕ → Bool) (i k : ℕ) → ((n : ℕ) → i ≤ n → n < i + k → f n ≡ g n) → some_in_places f i k ≡ some_in_places g i k
 unfolding some_in_places

@@ -19,8 +19,7 @@ use Rattle.etf.proofs.Laws.Back.{walk_enough}
 use Rattle.schedule.specs.Call.{start_of, processor_of}
 use Rattle.schedule.specs.InArrays.{InArrays, instance_in, Plannable}
 use Rattle.graph.specs.Graph.{edges_to}
-use Rattle.schedule.specs.CoverPass.{lowest_in, FirstMost, Scheduled, ShortBefore, ShortTicks, HoldsPlan}
-use Rattle.schedule.specs.Pass.{message_at, Sender}
+use Rattle.schedule.specs.CoverPass.{lowest_in, FirstMost, ShortBefore, ShortTicks, HoldsPlan}
 use Rattle.schedule.specs.CoverPass.{reach_into, MovesBack, Moves, along_back}
 use Rattle.schedule.specs.Laws.Held.{held_tasks, well}
 use Rattle.schedule.specs.Laws.Walk.ShortTicks.{no_short, lowest_small, latest_short, lowest_idle_lem}
@@ -36,22 +35,6 @@ holds_plan {I} {m} starts processors s p d e = record {
   starts_are = λ T h. rw d (filled_at (start_of I) m starts T h);
   processors_are = λ T h. rw e (filled_at (processor_of I) m processors T h);
 }
-
--- each edge comes from a task of the schedule that the arrays hold
-pub sender : {A : InArrays} (F : Plannable A) {starts processors : List ℕ}
-    → Scheduled A.tasks A.durations starts processors A.processors
-    → (k P : ℕ) → k < A.edges → Sender A.durations A.from A.counts A.costs starts processors P k
-unfolding message_at
-sender {A} F S k P h =
-    let b : get_or A.from k 0 < A.tasks = omega (arith, F.forward k h, F.within k h) in
-    record {
-      has_start = omega (arith, b, S.has_starts);
-      has_duration = omega (arith, b, S.has_durations);
-      has_processor = omega (arith, b, S.has_processors);
-      on_processor = omega (arith, S.on_processor _ b, F.few_processors);
-      in_time = omega (arith, S.in_time _ b);
-      near = F.near k _ P h;
-    }
 
 module _ {A : InArrays} (F : Plannable A) {starts processors : List ℕ} (H : HoldsPlan (instance_in A) A.tasks starts processors)
     {latest sets back' time : List ℕ}

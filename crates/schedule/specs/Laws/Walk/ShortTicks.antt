@@ -24,8 +24,11 @@ use Rattle.etf.proofs.Laws.Idle.{idle_of, idle_in, LatestIdleTick, no_tick, at, 
 use Rattle.etf.proofs.Laws.Planned.{apart_pairs, sound_plan, home, on_processor}
 use Rattle.etf.proofs.Laws.Times.{finish_most}
 use Rattle.schedule.specs.Call.{start_of, processor_of}
+use Rattle.schedule.specs.InPlace.{EachInPlace}
 use Rattle.schedule.specs.InArrays.{InArrays, instance_in, Plannable}
-use Rattle.schedule.specs.CoverPass.{has, Scheduled, Running, ShortBefore, HoldsPlan}
+use Rattle.schedule.specs.declared.timetable.Timetable.{Timetable}
+use Rattle.schedule.specs.Handed.{plannable}
+use Rattle.schedule.specs.CoverPass.{has, ApartIn, Scheduled, Running, ShortBefore, HoldsPlan}
 use Rattle.schedule.specs.Laws.Held.{held_tasks, held_few, timed, short_tasks, well, near_processors}
 use Rattle.schedule.specs.Laws.Walk.Sets.{member_below, lowest_in_lem, lowest_first}
 
@@ -86,6 +89,21 @@ module _ (I : Instance) (ps : List Placement) where
 
 -- ---- the planner's schedule in arrays
 
+-- a timetable is a schedule, if no two tasks are at one time on one processor
+pub scheduled_in : (x : Timetable) → ApartIn x
+    → Scheduled x.instance.tasks x.instance.durations.now x.plan.starts.now x.plan.processors.now x.instance.processors
+scheduled_in x apart =
+    let F = plannable x.instance in record {
+      few = F.few_tasks;
+      few_processors = F.few_processors;
+      has_durations = omega (arith, F.few_tasks, F.durations_size);
+      has_starts = x.in_place.has_starts;
+      has_processors = x.in_place.has_processors;
+      takes_time = F.takes_time;
+      on_processor = x.in_place.on_processor;
+      apart = apart;
+    }
+
 module _ {A : InArrays} (F : Plannable A) {starts processors : List ℕ} (H : HoldsPlan (instance_in A) A.tasks starts processors) where
   -- the instance and its schedule, and what the arrays have
   abbrev I : Instance
@@ -128,7 +146,7 @@ module _ {A : InArrays} (F : Plannable A) {starts processors : List ℕ} (H : Ho
       let late = finish_most I (well F) most_duration most_message_time (short_tasks F) (near_processors F) (placement_of ps T) u in
       omega (arith, finish_is T h, late, held_few F)
 
-  -- the arrays have a schedule: its tasks end in time and no two are on one processor at one time
+  -- the arrays have a schedule: no two of its tasks are on one processor at one time
   pub scheduled : Scheduled m durations starts processors A.processors
   scheduled = record {
     few = F.few_tasks;
@@ -137,7 +155,6 @@ module _ {A : InArrays} (F : Plannable A) {starts processors : List ℕ} (H : Ho
     has_starts = H.has_starts;
     has_processors = H.has_processors;
     takes_time = F.takes_time;
-    in_time = in_time;
     on_processor = λ T h. omega (arith, processor_is T h, on_processor I (well F) T (task_there T h), has_processors);
     apart = λ T U h k ne e.
         let a = home I (well F) T (task_there T h) in
@@ -151,6 +168,15 @@ module _ {A : InArrays} (F : Plannable A) {starts processors : List ℕ} (H : Ho
           → (get_or starts T 0 + get_or durations T 0 ≤ get_or starts U 0) ⊎ (get_or starts U 0 + get_or durations U 0 ≤ get_or starts T 0)
       two_apart T U h k (inl a) = inl (omega (arith, finish_is T h, start_is U k))
       two_apart T U h k (inr a) = inr (omega (arith, finish_is U k, start_is T h))
+
+  -- and each task has its place
+  pub places : EachInPlace m A.processors durations starts processors
+  places = record {
+    has_starts = H.has_starts;
+    has_processors = H.has_processors;
+    on_processor = scheduled.on_processor;
+    in_time = λ T h. omega (arith, in_time T h);
+  }
 
   -- a processor on which a task of the arrays runs is busy
   running_busy : (P t : ℕ) → Running m durations starts processors P t → Holds (busy I ps P t)
