@@ -99,6 +99,7 @@ fn mark_tasks(
 }
 
 // Draws the page of a plan for the job of a file at the front of `out`, and gives the page's length (02 §3).
+#[inline(never)]
 pub fn draw(
     file: &[u8],
     starts: &[u32],

@@ -17,7 +17,7 @@ ghost use Rattle.kelvrist.specs.PageBytes.{drew, page_bytes_call};
 ghost use Rattle.kelvrist.specs.Numbers.{in_bytes};
 ghost use Rattle.kelvrist.specs.Pass.{HasTasks, Taken};
 
-use job::{Refusal, Verdict};
+use job::{Arrays, Refusal, Verdict};
 use priority::Ties;
 use schedule::Outcome;
 
@@ -31,13 +31,16 @@ pub fn answer_number<T: Copy>(answer: Result<T, Refusal>) -> u32
     }
 }
 
-// How many tasks the job of these bytes has. The job itself, some 6 KB, is gone from the stack when the plan is judged.
+// How many tasks the job of these bytes has. The job itself, some 6 KB, is gone from the stack when the plan is judged: built into a
+// caller it would stay there.
+#[inline(never)]
 fn tasks_of(job: &[u8]) -> Result<usize, Refusal>
     ensures { HasTasks (read_job job.now) result }
 {
-    let r = job::read(job);
-    let Verdict::Counts { tasks, edges: _ } = r.verdict else {
-        return Err(r.verdict.refusal());
+    let mut arrays = Arrays::zeros();
+    let found = job::read_into(job, &mut arrays);
+    let Verdict::Counts { tasks, edges: _ } = found.verdict else {
+        return Err(found.verdict.refusal());
     };
     Ok(tasks)
 }

@@ -13,6 +13,7 @@ mod timetable;
 mod walk;
 
 ghost use Rattle.std.specs.Prelude.{◌≡◌, ℕ, length};
+ghost use Rattle.job.specs.Read.{reading_as};
 ghost use Rattle.priority.specs.Orders.{instance_by};
 ghost use Rattle.schedule.specs.InArrays.{reordered, instance_in, Plannable};
 ghost use Rattle.schedule.specs.Handed.{in_arrays, read_in_arrays};
@@ -30,7 +31,7 @@ ghost use Rattle.schedule.specs.SmallPass.{lay_small};
 ghost use Rattle.schedule.specs.CoverPass.{HoldsIn};
 
 use instance::{Instance, Schedule};
-use job::{Arrays, Reading, Refusal, Verdict};
+use job::{Arrays, Found, Reading, Refusal, Verdict};
 use priority::Ties;
 use timetable::Timetable;
 use walk::Ticks;
@@ -72,22 +73,23 @@ fn too_short(
 
 // The instance of a job that was read, by its square of costs.
 fn instance_of<'a>(
-    reading: &'a Reading,
+    found: &Found,
     tasks: usize,
     edges: usize,
+    arrays: &'a Arrays,
     costs: &'a [[u32; 16]; 16],
 ) -> Instance<'a>
-    requires { Plannable (read_in_arrays reading.now tasks edges costs.now) }
-    ensures { in_arrays result ≡ read_in_arrays reading.now tasks edges costs.now }
+    requires { Plannable (read_in_arrays (reading_as found.now arrays.now) tasks edges costs.now) }
+    ensures { in_arrays result ≡ read_in_arrays (reading_as found.now arrays.now) tasks edges costs.now }
 {
     Instance {
-        processors: usize::from(reading.platform.processors),
+        processors: usize::from(found.platform.processors),
         tasks,
         edges,
-        durations: &reading.arrays.durations,
-        from: &reading.arrays.from,
-        to: &reading.arrays.to,
-        counts: &reading.arrays.counts,
+        durations: &arrays.durations,
+        from: &arrays.from,
+        to: &arrays.to,
+        counts: &arrays.counts,
         costs,
     }
 }
@@ -129,17 +131,18 @@ pub fn plan_by(
     ensures { called (as_planned result) starts.new processors.new scratch.new ≡ plan_call_by (instance_by ties)
         file.now starts.old processors.old scratch.old }
 {
-    let r = job::read(file);
-    let Verdict::Counts { tasks, edges } = r.verdict else {
-        return Err(r.verdict.refusal());
+    let mut arrays = Arrays::zeros();
+    let found = job::read_into(file, &mut arrays);
+    let Verdict::Counts { tasks, edges } = found.verdict else {
+        return Err(found.verdict.refusal());
     };
-    let costs = costs::square(r.platform, &r.arrays.wires);
-    let instance = instance_of(&r, tasks, edges, &costs);
+    let costs = costs::square(found.platform, &arrays.wires);
+    let instance = instance_of(&found, tasks, edges, &arrays, &costs);
     let Some(last) = lay_out(&instance, ties, starts, processors, scratch) else {
         return Err(Refusal::ShortSlice);
     };
     let plan = Schedule { starts, processors };
-    let end = delivery::end(&instance, &r.arrays.results, &plan, last);
+    let end = delivery::end(&instance, &arrays.results, &plan, last);
     Ok(Outcome { tasks, end })
 }
 
@@ -205,16 +208,7 @@ pub fn plan_small(
         return Err(found.verdict.refusal());
     };
     let costs = costs::square(found.platform, &arrays.wires);
-    let instance = Instance {
-        processors: usize::from(found.platform.processors),
-        tasks,
-        edges,
-        durations: &arrays.durations,
-        from: &arrays.from,
-        to: &arrays.to,
-        counts: &arrays.counts,
-        costs: &costs,
-    };
+    let instance = instance_of(&found, tasks, edges, &arrays, &costs);
     let Some(last) = lay_small(&instance, starts, processors, scratch) else {
         return Err(Refusal::ShortSlice);
     };
@@ -263,12 +257,13 @@ fn cover_by(
     ensures { called (as_covered result) starts.new processors.new scratch.new ≡ cover_call_by (instance_by ties)
         file.now starts.old processors.old scratch.old }
 {
-    let r = job::read(file);
-    let Verdict::Counts { tasks, edges } = r.verdict else {
-        return Err(r.verdict.refusal());
+    let mut arrays = Arrays::zeros();
+    let found = job::read_into(file, &mut arrays);
+    let Verdict::Counts { tasks, edges } = found.verdict else {
+        return Err(found.verdict.refusal());
     };
-    let costs = costs::square(r.platform, &r.arrays.wires);
-    let instance = instance_of(&r, tasks, edges, &costs);
+    let costs = costs::square(found.platform, &arrays.wires);
+    let instance = instance_of(&found, tasks, edges, &arrays, &costs);
     let Some(_) = lay_out(&instance, ties, starts, processors, scratch) else {
         return Err(Refusal::ShortSlice);
     };
@@ -312,30 +307,46 @@ fn say(instance: &Instance, plan: &Schedule) -> Result<(), Refusal>
     checker::keeps_rules(instance, plan)
 }
 
-// Judges a plan for the job of a file (01: the checker).
+// Judges a plan for the job of a file (01: the checker). Built into a caller it would leave its 7 KB on the caller's stack throughout.
+#[inline(never)]
 pub fn check(file: &[u8], starts: &[u32], processors: &[u8]) -> Result<(), Refusal>
     ensures { as_checked result ≡ check_call file.now starts.now processors.now }
 {
-    let r = job::read(file);
-    let Verdict::Counts { tasks, edges } = r.verdict else {
-        return Err(r.verdict.refusal());
+    let mut arrays = Arrays::zeros();
+    let found = job::read_into(file, &mut arrays);
+    let Verdict::Counts { tasks, edges } = found.verdict else {
+        return Err(found.verdict.refusal());
     };
-    let costs = costs::square(r.platform, &r.arrays.wires);
-    let instance = instance_of(&r, tasks, edges, &costs);
+    let costs = costs::square(found.platform, &arrays.wires);
+    let instance = instance_of(&found, tasks, edges, &arrays, &costs);
     say(&instance, &Schedule { starts, processors })
+}
+
+// The reading of what was found, with the arrays that were filled.
+fn put_together(found: Found, arrays: Arrays) -> Reading
+    ensures { result ≡ reading_as found arrays }
+{
+    Reading {
+        arrays,
+        verdict: found.verdict,
+        platform: found.platform,
+    }
 }
 
 // Judges a plan for the job of a file, and hands on what was read: for a call that goes on with the job when the plan is accepted.
 pub fn judge(file: &[u8], starts: &[u32], processors: &[u8]) -> Judged
     ensures { as_judgement result ≡ judge_call file.now starts.now processors.now }
 {
-    let reading = job::read(file);
-    let Verdict::Counts { tasks, edges } = reading.verdict else {
-        let checked = Err(reading.verdict.refusal());
+    let mut arrays = Arrays::zeros();
+    let found = job::read_into(file, &mut arrays);
+    let Verdict::Counts { tasks, edges } = found.verdict else {
+        let checked = Err(found.verdict.refusal());
+        let reading = put_together(found, arrays);
         return Judged { reading, checked };
     };
-    let costs = costs::square(reading.platform, &reading.arrays.wires);
-    let instance = instance_of(&reading, tasks, edges, &costs);
+    let costs = costs::square(found.platform, &arrays.wires);
+    let instance = instance_of(&found, tasks, edges, &arrays, &costs);
     let checked = say(&instance, &Schedule { starts, processors });
+    let reading = put_together(found, arrays);
     Judged { reading, checked }
 }

@@ -18,8 +18,8 @@ has file m l e = let found = counted (read_job file) m l e in (found.0, found.1,
 
 pub returns-in_default : goal.returns-in_default
 returns-in_default c =
-    refused_is _ (ap (λ (r : Reading). r.verdict) (sym c.read-r.ensures) ∙ c.refusal.ensures)
+    refused_is _ (ap (λ (r : Reading). r.verdict) (sym c.read_into-found.ensures) ∙ c.refusal.ensures)
 
 pub returns : goal.returns
 returns c =
-    has _ _ _ (ap (λ (r : Reading). r.verdict) (sym c.read-r.ensures) ∙ c.in-Counts.is)
+    has _ _ _ (ap (λ (r : Reading). r.verdict) (sym c.read_into-found.ensures) ∙ c.in-Counts.is)

@@ -6,18 +6,18 @@ use Rattle.schedule.proofs.judge.Goals as goal
 
 pub returns-in_default : goal.returns-in_default
 returns-in_default c =
-    let e = c.read-reading.ensures in
-    judged_as _ _ _ e (check_passes_on _ e c.refusal.ensures _ _)
+    let e = c.read_into-found.ensures in
+    rw c.put_together-reading.ensures (judged_as _ _ _ e (check_passes_on _ e c.refusal.ensures _ _))
 
 pub instance_of-instance-requires : goal.instance_of-instance-requires
-instance_of-instance-requires c = plannable (read_as c.read-reading.ensures c.in-Counts.is) refl c.square-costs.ensures
+instance_of-instance-requires c = plannable (read_as c.read_into-found.ensures c.in-Counts.is) refl c.square-costs.ensures
 
 pub returns : goal.returns
 returns c =
-    let e = c.read-reading.ensures in
+    let e = c.read_into-found.ensures in
     let read = read_as e c.in-Counts.is in
     let H = c.instance_of-instance.result in
     let is = c.instance_of-instance.ensures in
-    judged_as _ _ _ e
+    rw c.put_together-reading-2.ensures (judged_as _ _ _ e
     (check_said read (handed_held read H is c.square-costs.ensures) (handed_tasks read H is c.square-costs.ensures) _ _
-    c.say-checked.ensures)
+    c.say-checked.ensures))

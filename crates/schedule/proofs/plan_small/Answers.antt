@@ -1,14 +1,14 @@
 -- `plan_small` passes the reader's number on, refuses by 9 where `lay_small` finds a slice too short, and else answers with the end of what
 -- it laid out.
-use Rattle.std.proofs.Common.{ap}
+use Rattle.std.proofs.Common.{refl, ap}
 use Rattle.etf.proofs.Jobs.{by_number}
 use Rattle.etf.specs.OfJob.{instance, result_of}
 use Rattle.schedule.specs.Answers.Laid.{as_laid}
 use Rattle.schedule.specs.Answers.Planned.{Plan, Refused}
 use Rattle.schedule.specs.Plan.{outcome}
 use Rattle.schedule.specs.Small.{small_places, laid_small, small_call}
-use Rattle.schedule.specs.Handed.{may_be_handed}
-use Rattle.schedule.specs.Laws.Reading.{read_as, instance_held, near_gate, plannable}
+use Rattle.schedule.specs.Handed.{plannable}
+use Rattle.schedule.specs.Laws.Reading.{read_as, plannable as may_plan, handed_held, handed_near}
 use Rattle.schedule.specs.Laws.Calls.{passes_on, planned_right}
 use Rattle.schedule.specs.Laws.SmallCalls.{small_holds, call_small_short, call_small_end}
 use Rattle.schedule.specs.Laws.Delivery.{deliverable, end_found}
@@ -20,29 +20,27 @@ returns-in_default c =
     passes_on _ c.read_into-found.ensures c.refusal.ensures
     small_places Refused (λ j. laid_small (Plan (outcome j)) (instance j)) _ _ _
 
-pub invariant_of-instance : goal.invariant_of-instance
-invariant_of-instance c =
-    let read = read_as c.read_into-found.ensures c.in-Counts.is in
-    record { ready = may_be_handed (plannable read c.from.ensures c.square-costs.ensures) }
+pub instance_of-instance-requires : goal.instance_of-instance-requires
+instance_of-instance-requires c = may_plan (read_as c.read_into-found.ensures c.in-Counts.is) refl c.square-costs.ensures
 
 pub returns-in_default-lay_small : goal.returns-in_default-lay_small
 returns-in_default-lay_small c =
     let read = read_as c.read_into-found.ensures c.in-Counts.is in
-    let same = instance_held read c.from.ensures c.square-costs.ensures in
+    let same = handed_held read c.instance_of-instance.result c.instance_of-instance.ensures c.square-costs.ensures in
     call_small_short read same _ _ _ (ap as_laid c.in_default-lay_small.is) c.lay_small.ensures
 
 pub end-reported-requires : goal.end-reported-requires
 end-reported-requires c =
     let read = read_as c.read_into-found.ensures c.in-Counts.is in
-    let given = plannable read c.from.ensures c.square-costs.ensures in
+    let given = plannable c.instance_of-instance.result in
     let held = small_holds given _ _ _ (ap as_laid c.in-Some.is) c.lay_small.ensures in
-    deliverable given held.0 held.1 _ (near_gate read c.from.ensures c.square-costs.ensures)
+    deliverable given held.0 held.1 _ (handed_near read c.instance_of-instance.result c.instance_of-instance.ensures c.square-costs.ensures)
 
 pub returns : goal.returns
 returns c =
     let read = read_as c.read_into-found.ensures c.in-Counts.is in
-    let same = instance_held read c.from.ensures c.square-costs.ensures in
-    let given = plannable read c.from.ensures c.square-costs.ensures in
+    let same = handed_held read c.instance_of-instance.result c.instance_of-instance.ensures c.square-costs.ensures in
+    let given = plannable c.instance_of-instance.result in
     let laid = ap as_laid c.in-Some.is in
     let held = small_holds given _ _ _ laid c.lay_small.ensures in
     call_small_end read same _ _ _ laid c.lay_small.ensures
