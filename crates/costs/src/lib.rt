@@ -2,7 +2,7 @@
 // The call asks nothing of its caller: of more processors than sixteen the first sixteen have a place in the square.
 #![tactic(auto)]
 
-ghost use Rattle.std.specs.Prelude.{◌≡◌, ◌≤◌, ◌<◌};
+ghost use Rattle.std.specs.Prelude.{◌≡◌, ◌≤◌, ◌<◌, replicate};
 ghost use Rattle.etf.specs.Topology.{hypercube_hops, ring_hops, hops as hops_of, cost as cost_of, square as square_of};
 ghost use Rattle.costs.specs.Wires.{loaded};
 
@@ -53,16 +53,32 @@ fn cost(platform: Platform, wires: &[u8; 256], p: usize, q: usize) -> u32
     u32::from(platform.unit) * hops(platform, p, q)
 }
 
-// The costs as a square of sixteen rows of sixteen, 0 where a processor is absent.
-pub fn square(platform: Platform, wires: &[u8; 256]) -> [[u32; 16]; 16]
-    ensures { result ≡ square_of platform.processors (cost_of platform (loaded wires.now)) }
+// Lays the costs into a square that is all 0.
+fn lay(platform: Platform, wires: &[u8; 256], costs: &mut [[u32; 16]; 16])
+    requires { costs.old ≡ replicate 16 (replicate 16 0) }
+    ensures { costs.new ≡ square_of platform.processors (cost_of platform (loaded wires.now)) }
 {
     let n = usize::from(platform.processors).min(16);
-    let mut costs = [[0u32; 16]; 16];
     for p in 0..n {
         for q in 0..n {
             costs[p][q] = cost(platform, wires, p, q);
         }
     }
+}
+
+// The costs as a square of sixteen rows of sixteen, 0 where a processor is absent.
+pub fn square(platform: Platform, wires: &[u8; 256]) -> [[u32; 16]; 16]
+    ensures { result ≡ square_of platform.processors (cost_of platform (loaded wires.now)) }
+{
+    let mut costs = [[0u32; 16]; 16];
+    lay(platform, wires, &mut costs);
     costs
+}
+
+// The same in a square that is lent, and so stands on the stack once. What it held does not count.
+pub fn fill_square(platform: Platform, wires: &[u8; 256], costs: &mut [[u32; 16]; 16])
+    ensures { costs.new ≡ square_of platform.processors (cost_of platform (loaded wires.now)) }
+{
+    *costs = [[0u32; 16]; 16];
+    lay(platform, wires, costs);
 }

@@ -3,13 +3,11 @@
 use Rattle.std.specs.Prelude.{◌⊎◌, ◌↔◌, ◌≡◌, List, ℕ, suc, ◌*◌, ◌≤◌, ◌<◌, length, get_or, drop}
 use Rattle.job.specs.declared.Arrays.{Arrays}
 use Rattle.job.specs.declared.Platform.{Platform}
-use Rattle.job.specs.declared.table.Refusal.{Refusal}
 use Rattle.job.specs.declared.Verdict.TheVariants.{Counts, Refused as NotRead}
 use Rattle.job.specs.Write.{Length, Refused as NotWritten}
 use Rattle.job.specs.Job.{Job}
 use Rattle.job.specs.Record.{kind_of}
 use Rattle.job.specs.Read.{accepted, refused, read_job, reading_of}
-use Rattle.job.specs.Table.{number_of}
 use Rattle.job.specs.Cause.{Cause, ReaderNumber, Reached}
 use Rattle.job.specs.Write.{file_of, held_job, Held, write_answer, WriterNumber, write_out}
 use Rattle.job.specs.Refusal.{read_refused, write_refused}
@@ -44,16 +42,15 @@ use Rattle.demands.specs.Laws.Refused.{bytes_answered, bytes_number, bytes_cause
 module _ (file : List ℕ) where
   -- the reader accepts, or refuses by one of its numbers
   pub reader_answers : ((m l : ℕ) × ((reading_of (read_job file)).verdict ≡ Counts m l))
-      ⊎ ((e : Refusal) × ((reading_of (read_job file)).verdict ≡ NotRead e) × ReaderNumber (number_of e))
+      ⊎ ((k : ℕ) × ((reading_of (read_job file)).verdict ≡ NotRead k) × ReaderNumber k)
   reader_answers = read_answers file
 
   -- by a number only with its condition: at a place that it comes to past records without trouble the file ends (1), or a record has the
   -- number's cause
-  pub reader_refuses : (e : Refusal) → (reading_of (read_job file)).verdict ≡ NotRead e →
+  pub reader_refuses : (k : ℕ) → (reading_of (read_job file)).verdict ≡ NotRead k →
       (at : ℕ) × (j : Job) × Reached file at j
-      × (((length file ≤ at) × (number_of e ≡ 1))
-      ⊎ ((at < length file) × Cause (drop (suc at) file) j (kind_of (get_or file at 0)) (number_of e)))
-  reader_refuses e h = read_refused file (number_of e) (refused_is file h)
+      × (((length file ≤ at) × (k ≡ 1)) ⊎ ((at < length file) × Cause (drop (suc at) file) j (kind_of (get_or file at 0)) k))
+  reader_refuses k e = read_refused file k (refused_is (read_job file) e)
 
   -- the program prints a plan, or the reader's number, and nothing else
   pub program_answers : ((j : Job) × (read_job file ≡ accepted j) × (listing file ≡ plan_listing j))

@@ -11,7 +11,7 @@ ghost use Rattle.gantt.specs.Page.{dot, row, rows};
 ghost use Rattle.gantt.specs.Draw.{drawn, draw_call};
 ghost use Rattle.gantt.specs.Pass.{Drawable, cells_by};
 
-use job::{Refusal, Verdict};
+use job::{Arrays, Refusal, Verdict};
 
 // The last finish of a plan.
 fn last_finish(tasks: usize, durations: &[u32], starts: &[u32]) -> u32
@@ -109,29 +109,22 @@ pub fn draw(
     ensures { drawn (as_drawn result) out.new ≡
         draw_call file.now starts.now processors.now out.old }
 {
-    let judged = schedule::judge(file, starts, processors);
-    let r = judged.reading;
+    let mut arrays = Arrays::zeros();
+    let judged = schedule::judge_into(file, starts, processors, &mut arrays);
+    let found = judged.found;
     let checked = judged.checked;
-    let Verdict::Counts { tasks, edges: _ } = r.verdict else {
-        return Err(r.verdict.refusal());
+    let Verdict::Counts { tasks, edges: _ } = found.verdict else {
+        return Err(found.verdict.refusal());
     };
-    let n = usize::from(r.platform.processors);
+    let n = usize::from(found.platform.processors);
     let length = 70 * n;
     if out.len() < length {
         return Err(Refusal::ShortSlice);
     }
     checked?;
-    let last = last_finish(tasks, &r.arrays.durations, starts);
+    let last = last_finish(tasks, &arrays.durations, starts);
     let width = (last + 63) / 64;
     put_rows(n, out);
-    mark_tasks(
-        n,
-        tasks,
-        width,
-        &r.arrays.durations,
-        starts,
-        processors,
-        out,
-    );
+    mark_tasks(n, tasks, width, &arrays.durations, starts, processors, out);
     Ok(length)
 }

@@ -3,7 +3,9 @@
 use Rattle.std.specs.Prelude.{true, false, ◌⊎◌, ◌≡◌, refl, List, map, ℕ, suc, ◌+◌, ◌*◌, ◌≤◌, ◌<◌, eqb, length, get_or}
 use Rattle.std.proofs.Common.{ap, sym, ◌∙◌, append-nil}
 use Rattle.std.proofs.Math.ListN.{get_or-eq_default}
+use Rattle.job.specs.declared.Reading.{Reading}
 use Rattle.job.specs.declared.table.Refusal.{Refusal}
+use Rattle.job.specs.declared.Verdict.{Verdict}
 use Rattle.job.specs.declared.Verdict.TheVariants.{Counts, Refused}
 use Rattle.base.specs.Lists.{◌∈◌}
 use Rattle.base.specs.Laws.Tests.{impossible, neqb→ne}
@@ -13,7 +15,7 @@ use Rattle.job.specs.Job.{Edge, Result, result_count, RiseByTask, ends, wire_cos
 use Rattle.job.specs.Counts.{count_most}
 use Rattle.job.specs.Limits.{most_processors, most_unit, most_wire_cost, most_duration, most_count, most_tasks, most_edges}
 use Rattle.job.specs.Record.{wire_pairs, has_successor}
-use Rattle.job.specs.Read.{Answer, accepted, refused, read_job, arrays_of, reading_of}
+use Rattle.job.specs.Read.{Answer, accepted, refused, read_job, verdict_number, arrays_of, reading_of}
 use Rattle.job.specs.Table.{number_of, refusal, number_is}
 use Rattle.job.specs.Refusal.{read_numbers, in_table}
 use Rattle.job.specs.Laws.Turn.{reads}
@@ -102,23 +104,21 @@ unfolding reading_of
 counted (accepted j) m l e = (j, refl, cc, cc)
 counted (refused k) m l e = let z : false ≡ true = cc in impossible z
 
--- one that is a refusal with an answer that has this refusal's number
-pub refused_as : (a : Answer) {e : Refusal} → (reading_of a).verdict ≡ Refused e → (k : ℕ) × (a ≡ refused k) × (refusal k ≡ e)
+-- and one with a number with a file that is refused by it
+pub refused_is : (a : Answer) {k : ℕ} → (reading_of a).verdict ≡ Refused k → a ≡ refused k
 unfolding reading_of
-refused_as (accepted j) h = let z : false ≡ true = cc in impossible z
-refused_as (refused k) h = (k, refl, cc)
+refused_is (accepted j) e = let z : false ≡ true = cc in impossible z
+refused_is (refused n) e = cc
 
--- and one with a refusal with a file that is refused by its number
-pub refused_is : (file : List ℕ) {e : Refusal} → (reading_of (read_job file)).verdict ≡ Refused e → read_job file ≡ refused (number_of e)
-unfolding reading_of
-refused_is file {e} h = go (read_job file) refl h
-  where
-    go : (a : Answer) → read_job file ≡ a → (reading_of a).verdict ≡ Refused e → a ≡ refused (number_of e)
-    go (accepted j) r v = let z : false ≡ true = cc in impossible z
-    go (refused n) r v =
-        let k = in_table n (read_numbers file n r) in
-        let q : refusal n ≡ e = cc in
-        ap refused (sym (number_is n k.0 k.1) ∙ ap number_of q)
+-- .. and by that of the row of the refusal table that has it
+pub refused_by : (file : List ℕ) {x : Reading} {k : ℕ} {r : Refusal} → x ≡ reading_of (read_job file) → x.verdict ≡ Refused k
+    → r ≡ refusal (verdict_number x.verdict) → read_job file ≡ refused (number_of r)
+refused_by file {x} {k} {r} e v q =
+    let w : (reading_of (read_job file)).verdict ≡ Refused k = ap (λ (y : Reading). y.verdict) (sym e) ∙ v in
+    let says = refused_is (read_job file) w in
+    let t = in_table k (read_numbers file k says) in
+    let row : r ≡ refusal k = q ∙ ap (λ (y : Verdict). refusal (verdict_number y)) v in
+    says ∙ ap refused (sym (ap number_of row ∙ number_is k t.0 t.1))
 
 -- a job j laid out in arrays
 pub record LaidOut (r : Arrays) (j : Job) : Type 0 where

@@ -9,7 +9,6 @@ use Rattle.job.specs.declared.Arrays.{Arrays}
 use Rattle.job.specs.declared.Found.{Found}
 use Rattle.job.specs.declared.Reading.{Reading}
 use Rattle.job.specs.Job.{Edge, Wire, wire_cost, Result, result_count, Job, blank}
-use Rattle.job.specs.Table.{number_of, refusal}
 use Rattle.job.specs.Record.{Kind, rack, step, link, end, wire, result, kind_of, body_length, empty, stands, full, in_range, misfit}
 use Rattle.job.specs.Record.{added}
 
@@ -57,12 +56,7 @@ read_job file = records file 0 blank
 -- the number of a refused file; 0 for an accepted one
 abbrev pub verdict_number : Verdict → ℕ
 verdict_number (Counts m l) = 0
-verdict_number (Refused e) = number_of e
-
--- a verdict that is a refusal
-abbrev pub IsRefused : Verdict → Type 0
-IsRefused (Counts m l) = ⊥
-IsRefused (Refused e) = Unit {0}
+verdict_number (Refused k) = k
 
 -- an array of n places that begins with xs (01: "spare places of its arrays read as 0")
 unfoldable pub padded : ℕ → List ℕ → List ℕ
@@ -90,7 +84,7 @@ arrays_of j = record {
 -- the answer as `read` returns it: the verdict beside the platform and the arrays, all 0 on a refusal
 unfoldable pub reading_of : Answer → Reading
 reading_of (accepted j) = record { verdict = Counts (length j.tasks) (length j.edges); platform = j.platform; arrays = arrays_of j }
-reading_of (refused k) = record { verdict = Refused (refusal k); platform = blank.platform; arrays = arrays_of blank }
+reading_of (refused k) = record { verdict = Refused k; platform = blank.platform; arrays = arrays_of blank }
 
 -- a reading, of what was found and the arrays
 abbrev pub reading_as : Found → Arrays → Reading

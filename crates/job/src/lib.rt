@@ -11,7 +11,7 @@ ghost use Rattle.std.specs.Prelude.{◌≡◌};
 ghost use Rattle.job.specs.Job.{blank};
 ghost use Rattle.job.specs.Topology.{Links};
 ghost use Rattle.job.specs.declared.Verdict.TheVariants.{Refused};
-ghost use Rattle.job.specs.Read.{IsRefused};
+ghost use Rattle.job.specs.Table.{number_of, refusal};
 ghost use Rattle.job.specs.Read.{read_job, verdict_number, arrays_of, reading_of, reading_as};
 ghost use Rattle.job.specs.Write.{written, job_held, WrittenAs};
 ghost use Rattle.job.specs.Pass.{Filling};
@@ -52,11 +52,11 @@ pub struct Platform {
     pub unit: u8,
 }
 
-// What reading a file finds: the counts of tasks and edges, or why it is refused, which has the number of the refusal table.
+// What reading a file finds: the counts of tasks and edges, or the refusal's number.
 #[derive(Clone, Copy)]
 pub enum Verdict {
     Counts { tasks: usize, edges: usize },
-    Refused(Refusal),
+    Refused(u8),
 }
 
 // A job's numbers: the duration of each task, the ends and the message count of each edge, under topology 3 the cost of the wire from
@@ -95,20 +95,16 @@ pub fn number(verdict: Verdict) -> u8
 {
     match verdict {
         Verdict::Counts { tasks: _, edges: _ } => 0,
-        Verdict::Refused(refusal) => refusal.number(),
+        Verdict::Refused(number) => number,
     }
 }
 
 impl Verdict {
-    // Why a file is refused, of the verdict on one that is.
+    // Why a file is refused: the row of the table that has the number. (For a number that the table has not it is the last row.)
     pub fn refusal(self) -> Refusal
-        requires { IsRefused self }
-        ensures { self ≡ Refused result }
+        ensures { result ≡ refusal (verdict_number self) }
     {
-        match self {
-            Verdict::Counts { tasks: _, edges: _ } => unreachable!(),
-            Verdict::Refused(refusal) => refusal,
-        }
+        table::by_number(number(self))
     }
 }
 
@@ -168,10 +164,10 @@ fn fill(file: &[u8], arrays: &mut Arrays) -> Result<Found, Refusal>
 // What is found in a refused file.
 #[tactic(auto, unfolding(crate::specs::Job::blank))]
 fn nothing(refusal: Refusal) -> Found
-    ensures { result ≡ record { verdict = Refused refusal; platform = blank.platform } }
+    ensures { result ≡ record { verdict = Refused (number_of refusal); platform = blank.platform } }
 {
     Found {
-        verdict: Verdict::Refused(refusal),
+        verdict: Verdict::Refused(refusal.number()),
         platform: Platform {
             processors: 0,
             topology: 0,

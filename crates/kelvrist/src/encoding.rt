@@ -3,13 +3,14 @@ ghost use Rattle.std.specs.Prelude.{◌≡◌, ◌++◌, ℕ, ◌+◌, ◌*◌, 
 ghost use Rattle.std.proofs.lemmas.List.Edits.{sets};
 ghost use Rattle.kelvrist.specs.PlanBytes.{task_bytes, plan_bytes, processor_in, start_in};
 
-// Writes the five bytes of one task.
+// Writes the five bytes of one task, the processor's apart: a copy of five is put together on the stack and read back there while its
+// stores are under way, which took a fifth of the planning of many tasks without edges.
 fn put_task(plan: &mut [u8], at: usize, processor: u8, start: u32)
     requires { at + 5 ≤ length plan.old }
     ensures { plan.new ≡ sets plan.old at (task_bytes processor start) }
 {
-    let [first, second, third, fourth] = start.to_le_bytes();
-    plan[at..at + 5].copy_from_slice(&[processor, first, second, third, fourth]);
+    plan[at] = processor;
+    plan[at + 1..at + 5].copy_from_slice(&start.to_le_bytes());
 }
 
 // Writes the first `tasks` tasks.

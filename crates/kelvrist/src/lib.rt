@@ -146,7 +146,8 @@ fn draw_plan(job: &[u8], plan: &[u8], page: &mut [u8]) -> Result<usize, Refusal>
 {
     let mut starts = [0u32; 256];
     let mut processors = [0u8; 256];
-    take_plan(job, plan, &mut starts, &mut processors)?;
+    let taken = take_plan(job, plan, &mut starts, &mut processors);
+    taken?;
     gantt::draw(job, &starts, &processors, page)
 }
 

@@ -7,7 +7,7 @@ use Rattle.base.specs.Choice.{pick}
 use Rattle.base.specs.Rows.{most}
 use Rattle.etf.specs.Instance.{Instance}
 use Rattle.etf.specs.Topology.{entry}
-use Rattle.etf.specs.Bounds.{most_message_time, most_chain}
+use Rattle.etf.specs.Bounds.{most_message_time, most_finish, most_chain}
 use Rattle.schedule.specs.declared.timetable.Timetable.{Timetable}
 use Rattle.schedule.specs.declared.walk.Stretches.{Stretches}
 use Rattle.schedule.specs.declared.walk.Ticks.{Ticks}
@@ -61,16 +61,21 @@ module _ (m : ℕ) (durations starts processors : List ℕ) where
   Apart = (T U : ℕ) → T < m → U < m → ¬ (T ≡ U) → get_or processors T 0 ≡ get_or processors U 0
       → (get_or starts T 0 + get_or durations T 0 ≤ get_or starts U 0) ⊎ (get_or starts U 0 + get_or durations U 0 ≤ get_or starts T 0)
 
-  -- a schedule of m tasks on n processors, no two at one time on one
-  pub record Scheduled (n : ℕ) : Type 0 where
+  -- a schedule of m tasks on n processors, all done by tick `late`, no two at one time on one
+  pub record ScheduledBy (late n : ℕ) : Type 0 where
     pub few : m ≤ 256
     pub few_processors : n ≤ 16
     pub has_durations : m ≤ length durations
     pub has_starts : m ≤ length starts
     pub has_processors : m ≤ length processors
     pub takes_time : (T : ℕ) → T < m → 1 ≤ get_or durations T 0
+    pub in_time : (T : ℕ) → T < m → get_or starts T 0 + get_or durations T 0 ≤ late
     pub on_processor : (T : ℕ) → T < m → get_or processors T 0 < n
     pub apart : Apart
+
+  -- .. by the latest tick at which a plan of the planner ends
+  abbrev pub Scheduled : ℕ → Type 0
+  Scheduled n = ScheduledBy most_finish n
 
   -- a task that runs on processor P in tick t
   pub record Running (P t : ℕ) : Type 0 where

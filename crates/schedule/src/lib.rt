@@ -20,7 +20,7 @@ ghost use Rattle.schedule.specs.Handed.{in_arrays, read_in_arrays};
 ghost use Rattle.schedule.specs.Answers.Laid.{as_laid};
 ghost use Rattle.schedule.specs.Answers.Planned.{as_planned};
 ghost use Rattle.schedule.specs.Answers.Covered.{as_covered};
-ghost use Rattle.schedule.specs.Answers.Checked.{as_checked, as_judgement};
+ghost use Rattle.schedule.specs.Answers.Checked.{as_checked, as_judgement, found_judgement};
 ghost use Rattle.schedule.specs.Call.{called};
 ghost use Rattle.schedule.specs.Plan.{plan_call_by, plan_call, weight_call};
 ghost use Rattle.schedule.specs.Small.{small_call};
@@ -55,6 +55,13 @@ pub struct Figures {
 #[derive(Drop)]
 pub struct Judged {
     pub reading: Reading,
+    pub checked: Result<(), Refusal>,
+}
+
+// The same beside the arrays that the reader fills.
+#[derive(Drop)]
+pub struct JudgedFound {
+    pub found: Found,
     pub checked: Result<(), Refusal>,
 }
 
@@ -136,7 +143,8 @@ pub fn plan_by(
     let Verdict::Counts { tasks, edges } = found.verdict else {
         return Err(found.verdict.refusal());
     };
-    let costs = costs::square(found.platform, &arrays.wires);
+    let mut costs = [[0u32; 16]; 16];
+    costs::fill_square(found.platform, &arrays.wires, &mut costs);
     let instance = instance_of(&found, tasks, edges, &arrays, &costs);
     let Some(last) = lay_out(&instance, ties, starts, processors, scratch) else {
         return Err(Refusal::ShortSlice);
@@ -207,7 +215,8 @@ pub fn plan_small(
     let Verdict::Counts { tasks, edges } = found.verdict else {
         return Err(found.verdict.refusal());
     };
-    let costs = costs::square(found.platform, &arrays.wires);
+    let mut costs = [[0u32; 16]; 16];
+    costs::fill_square(found.platform, &arrays.wires, &mut costs);
     let instance = instance_of(&found, tasks, edges, &arrays, &costs);
     let Some(last) = lay_small(&instance, starts, processors, scratch) else {
         return Err(Refusal::ShortSlice);
@@ -262,7 +271,8 @@ fn cover_by(
     let Verdict::Counts { tasks, edges } = found.verdict else {
         return Err(found.verdict.refusal());
     };
-    let costs = costs::square(found.platform, &arrays.wires);
+    let mut costs = [[0u32; 16]; 16];
+    costs::fill_square(found.platform, &arrays.wires, &mut costs);
     let instance = instance_of(&found, tasks, edges, &arrays, &costs);
     let Some(_) = lay_out(&instance, ties, starts, processors, scratch) else {
         return Err(Refusal::ShortSlice);
@@ -317,7 +327,8 @@ pub fn check(file: &[u8], starts: &[u32], processors: &[u8]) -> Result<(), Refus
     let Verdict::Counts { tasks, edges } = found.verdict else {
         return Err(found.verdict.refusal());
     };
-    let costs = costs::square(found.platform, &arrays.wires);
+    let mut costs = [[0u32; 16]; 16];
+    costs::fill_square(found.platform, &arrays.wires, &mut costs);
     let instance = instance_of(&found, tasks, edges, &arrays, &costs);
     say(&instance, &Schedule { starts, processors })
 }
@@ -338,15 +349,30 @@ pub fn judge(file: &[u8], starts: &[u32], processors: &[u8]) -> Judged
     ensures { as_judgement result ≡ judge_call file.now starts.now processors.now }
 {
     let mut arrays = Arrays::zeros();
-    let found = job::read_into(file, &mut arrays);
+    let judged = judge_into(file, starts, processors, &mut arrays);
+    Judged {
+        reading: put_together(judged.found, arrays),
+        checked: judged.checked,
+    }
+}
+
+// The same with the job in arrays that the caller has, where it is on the stack once. What they held does not count.
+pub fn judge_into(
+    file: &[u8],
+    starts: &[u32],
+    processors: &[u8],
+    arrays: &mut Arrays,
+) -> JudgedFound
+    ensures { found_judgement result arrays.new ≡ judge_call file.now starts.now processors.now }
+{
+    let found = job::read_into(file, arrays);
     let Verdict::Counts { tasks, edges } = found.verdict else {
         let checked = Err(found.verdict.refusal());
-        let reading = put_together(found, arrays);
-        return Judged { reading, checked };
+        return JudgedFound { found, checked };
     };
-    let costs = costs::square(found.platform, &arrays.wires);
-    let instance = instance_of(&found, tasks, edges, &arrays, &costs);
+    let mut costs = [[0u32; 16]; 16];
+    costs::fill_square(found.platform, &arrays.wires, &mut costs);
+    let instance = instance_of(&found, tasks, edges, arrays, &costs);
     let checked = say(&instance, &Schedule { starts, processors });
-    let reading = put_together(found, arrays);
-    Judged { reading, checked }
+    JudgedFound { found, checked }
 }

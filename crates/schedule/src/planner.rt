@@ -387,8 +387,9 @@ pub fn run(
         clock: 0,
         low: 0,
         busy: [0; 16],
-        waiting: graph::counts(to, instance.edges),
+        waiting: [0; 256],
     };
+    graph::fill_counts(to, instance.edges, &mut progress.waiting);
     let by = ByArray { tasks: order };
     let mut latest = [0u32; 256];
     let mut free = [0usize; 16];

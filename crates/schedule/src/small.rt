@@ -204,8 +204,9 @@ pub fn run(
         clock: 0,
         low: 0,
         busy: [0; 16],
-        waiting: graph::counts(to, instance.edges),
+        waiting: [0; 256],
     };
+    graph::fill_counts(to, instance.edges, &mut progress.waiting);
     let mut free = [0usize; 16];
     let mut end: u32 = 0;
     while progress.low < instance.tasks {

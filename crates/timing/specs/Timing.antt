@@ -8,7 +8,6 @@ use Rattle.job.specs.declared.Verdict.TheVariants.{Counts, Refused as NotRead}
 use Rattle.job.specs.Limits.{most_processors, most_tasks, most_edges}
 use Rattle.job.specs.Job.{Job}
 use Rattle.job.specs.Read.{Answer, accepted, refused, read_job, verdict_number}
-use Rattle.job.specs.Table.{number_of}
 use Rattle.job.specs.Write.{Written, Length, Refused as NotWritten, held_job, write_answer, write_out}
 use Rattle.etf.specs.Topology.{entry, cost, square}
 use Rattle.costs.specs.Wires.{loaded}
@@ -60,12 +59,12 @@ job_held_in r m l = held_job r.platform m l r.arrays
 -- what the writer answers for what was read
 unfoldable pub copy_answer : Verdict → Reading → List ℕ → Written
 copy_answer (Counts m l) r out = write_answer m l (job_held_in r m l) out
-copy_answer (NotRead e) r out = NotWritten (number_of e)
+copy_answer (NotRead k) r out = NotWritten k
 
 -- the output afterwards
 unfoldable pub copy_out : Verdict → Reading → List ℕ → List ℕ
 copy_out (Counts m l) r out = write_out (write_answer m l (job_held_in r m l) out) (job_held_in r m l) out
-copy_out (NotRead e) r out = out
+copy_out (NotRead k) r out = out
 
 -- what a copy of the file that reads as r returns and leaves
 pub record Copied (number : ℕ) (after : List ℕ) (r : Reading) (before : List ℕ) : Type 0 where

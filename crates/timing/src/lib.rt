@@ -98,7 +98,7 @@ fn or_nine(file: &[u8]) -> u32
 {
     match job::read(file).verdict {
         Verdict::Counts { .. } => 9,
-        Verdict::Refused(refusal) => u32::from(refusal.number()),
+        Verdict::Refused(number) => u32::from(number),
     }
 }
 

@@ -123,8 +123,8 @@ pub fn case<W: Write>(sink: &mut W, file: &[u8]) -> io::Result<()> {
                 writeln!(sink, " differs")
             }
         }
-        Verdict::Refused(refusal) => {
-            write!(sink, "refused {}", refusal.number())?;
+        Verdict::Refused(number) => {
+            write!(sink, "refused {number}")?;
             show_job(sink, &r, 0, 0)?;
             writeln!(sink)
         }

@@ -11,7 +11,6 @@ use Rattle.base.specs.Choice.{pick}
 use Rattle.base.specs.Laws.Tests.{impossible, le_or_lt}
 use Rattle.job.specs.declared.Arrays.{Arrays}
 use Rattle.job.specs.declared.Platform.{Platform}
-use Rattle.job.specs.declared.table.Refusal.{Refusal as Row}
 use Rattle.job.specs.declared.Verdict.TheVariants.{Counts, Refused as NotRead}
 use Rattle.job.specs.Write.{Written}
 use Rattle.job.specs.Write.{Length, Refused as NotWritten}
@@ -19,8 +18,7 @@ use Rattle.job.specs.Job.{Job}
 use Rattle.job.specs.Read.{Answer, accepted, refused, read_job, reading_of}
 use Rattle.job.specs.Write.{file_of, held_job, Held, room_for, is_too_many, write_answer, WriterNumber, write_out}
 use Rattle.job.specs.Cause.{ReaderNumber}
-use Rattle.job.specs.Table.{number_of as row_number, refusal, number_is}
-use Rattle.job.specs.Refusal.{read_numbers, in_table, write_numbers}
+use Rattle.job.specs.Refusal.{read_numbers, write_numbers}
 use Rattle.etf.specs.Instance.{Instance, tasks}
 use Rattle.etf.specs.Schedule.{Placement, schedule_of}
 use Rattle.etf.specs.Checker.{Because, no_processor, too_late, overlaps, too_early}
@@ -34,9 +32,7 @@ use Rattle.kelvrist.specs.PlanBytes.{processor_in, start_in, check_bytes_for, ch
 
 -- it accepts, or refuses by a number of its own
 abbrev pub Read : Answer → Type 0
-Read a =
-    ((m l : ℕ) × ((reading_of a).verdict ≡ Counts m l))
-    ⊎ ((e : Row) × ((reading_of a).verdict ≡ NotRead e) × ReaderNumber (row_number e))
+Read a = ((m l : ℕ) × ((reading_of a).verdict ≡ Counts m l)) ⊎ ((k : ℕ) × ((reading_of a).verdict ≡ NotRead k) × ReaderNumber k)
 
 pub read_answers : (file : List ℕ) → Read (read_job file)
 unfolding reading_of
@@ -44,10 +40,7 @@ read_answers file = go (read_job file) refl
   where
     go : (a : Answer) → read_job file ≡ a → Read a
     go (accepted j) e = inl (length j.tasks, length j.edges, refl)
-    go (refused k) e =
-        let n = read_numbers file k e in
-        let t = in_table k n in
-        inr (refusal k, refl, rw (number_is k t.0 t.1) n)
+    go (refused k) e = inr (k, refl, read_numbers file k e)
 
 -- ---- the checker
 

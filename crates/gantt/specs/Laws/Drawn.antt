@@ -13,19 +13,20 @@ use Rattle.base.specs.Rows.{most}
 use Rattle.base.specs.Laws.Lists.{upto_in, map_in}
 use Rattle.base.specs.Laws.Most.{most_ge, most_below, most_same, greatest-upto}
 use Rattle.job.specs.declared.Verdict.TheVariants.{Counts, Refused as NotRead}
+use Rattle.job.specs.declared.Arrays.{Arrays}
 use Rattle.job.specs.declared.Reading.{Reading}
 use Rattle.job.specs.declared.table.Refusal.{Refusal}
 use Rattle.job.specs.Limits.{most_duration}
 use Rattle.job.specs.Job.{Job}
-use Rattle.job.specs.Read.{accepted, read_job, reading_of}
-use Rattle.job.specs.Table.{number_of}
-use Rattle.job.specs.Accepted.{Accepted, accepted_job, counted, refused_is, laid_out}
+use Rattle.job.specs.Read.{accepted, read_job, verdict_number, reading_of, reading_as}
+use Rattle.job.specs.Table.{number_of, refusal}
+use Rattle.job.specs.Accepted.{Accepted, accepted_job, counted, refused_by, laid_out}
 use Rattle.etf.specs.Instance.{Instance, tasks, duration}
 use Rattle.etf.specs.Schedule.{Placement, finish, last_finish, schedule_of}
 use Rattle.etf.specs.Checker.{latest_start}
 use Rattle.etf.specs.OfJob.{instance}
-use Rattle.schedule.specs.Answers.Checked.{Checked, Yes, as_checked, Judgement, as_judgement}
-use Rattle.schedule.specs.declared.Judged.{Judged}
+use Rattle.schedule.specs.Answers.Checked.{Checked, Yes, as_checked, Judgement, found_judgement}
+use Rattle.schedule.specs.declared.JudgedFound.{JudgedFound}
 use Rattle.schedule.specs.Check.{check_for, check_call, judge_call}
 use Rattle.schedule.specs.Verdict.{plan_in, KeptIn, yes_says}
 use Rattle.gantt.specs.Answer.{Length, Refused}
@@ -53,10 +54,11 @@ with_page : (N n : ℕ) (p q out out' : List ℕ) → N ≡ n → p ≡ q → ou
 unfolding drawn_by
 with_page N n p q out out' a b c = rw (a, b, c)
 
-module _ (file starts processors : List ℕ) (judged : Judged) (is : as_judgement judged ≡ judge_call file starts processors) where
+module _ (file starts processors : List ℕ) (judged : JudgedFound) (arrays : Arrays)
+    (is : found_judgement judged arrays ≡ judge_call file starts processors) where
   -- what was read
   abbrev x : Reading
-  x = judged.reading
+  x = reading_as judged.found arrays
 
   e : x ≡ reading_of (read_job file)
   unfolding judge_call
@@ -64,10 +66,10 @@ module _ (file starts processors : List ℕ) (judged : Judged) (is : as_judgemen
 
   -- ---- a refused file
 
-  pub passes_on : (out : List ℕ) {k : Refusal} → x.verdict ≡ NotRead k
-      → drawn (Refused (number_of k)) out ≡ draw_call file starts processors out
+  pub passes_on : (out : List ℕ) {k : ℕ} {r : Refusal} → x.verdict ≡ NotRead k → r ≡ refusal (verdict_number x.verdict)
+      → drawn (Refused (number_of r)) out ≡ draw_call file starts processors out
   unfolding draw_call draw_for
-  passes_on out v = rw (refused_is file (ap (λ (r : Reading). r.verdict) (sym e) ∙ v))
+  passes_on out v q = rw (refused_by file e v q)
 
   -- ---- an accepted one
 

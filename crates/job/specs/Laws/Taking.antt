@@ -23,7 +23,7 @@ use Rattle.job.specs.Record.{Kind, rack, step, link, end, wire, result, kind_of,
 use Rattle.job.specs.Read.{accepted, refused, refused_or, records, read_job, padded, result_array, arrays_of, reading_of}
 use Rattle.job.specs.Read.{reading_as}
 use Rattle.job.specs.Write.{wire_held, results_held, held_job, gathered}
-use Rattle.job.specs.Table.{number_of, trouble, is_trouble, refusal_is}
+use Rattle.job.specs.Table.{number_of, trouble, is_trouble}
 use Rattle.job.specs.Pass.{edge, key, sends, NoneThere, RackRead, WiresTaken, StepsTaken, LinkDue, LinkRead}
 use Rattle.job.specs.Pass.{Refuses, ResultDue, ResultsTaken, EndPassed}
 use Rattle.job.specs.Laws.Judged.{stops}
@@ -34,10 +34,10 @@ use Rattle.job.specs.Laws.Results.{no_results, array_none, sends_are, past_none}
 use Rattle.job.specs.Laws.Spare.{Filled, front_none, front_set, arrays_back}
 
 -- a refusal, beside arrays that are all 0
-pub nothing_read : (file : List ℕ) (e : Refusal) (r : Found) (a : Arrays) → r ≡ record { verdict = Refused e; platform = blank.platform } →
+pub nothing_read : (file : List ℕ) (e : Refusal) (r : Found) (a : Arrays) → r ≡ record { verdict = Refused (number_of e); platform = blank.platform } →
     a ≡ arrays_of blank → read_job file ≡ refused (number_of e) → reading_as r a ≡ reading_of (read_job file)
 unfolding reading_of
-nothing_read file e r a f z q = rw (q, refusal_is e, f, z) refl
+nothing_read file e r a f z q = rw (q, f, z) refl
 
 -- l links were taken up to place `at`, and the arrays hold the job so far
 pub record Going (file : List ℕ) (p : Platform) (m : ℕ) (a : Arrays) (l at least : ℕ) : Type 0 where

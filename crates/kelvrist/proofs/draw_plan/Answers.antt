@@ -36,10 +36,10 @@ module _ {file plan starts processors : List ℕ} {taken : Result Unit Refusal}
       ∙ sym (as_drawn file plan page h.job h.says starts processors h.has_bytes h.has_starts h.has_processors
       (λ T i. (h.starts_are T i, h.processors_are T i))))
 
-pub returns-in_err-take_plan : goal.returns-in_err-take_plan
-returns-in_err-take_plan c =
+pub returns-in_err-taken : goal.returns-in_err-taken
+returns-in_err-taken c =
     let p = err_from_is_err_and c.from_residual.result c.from_residual.ensures.1 in
-    rw (p.1, p.2) (refuses c.take_plan.ensures _ c.in_err-take_plan.was)
+    rw (p.1, p.2) (refuses c.take_plan-taken.ensures _ c.in_err-taken.was)
 
 pub returns : goal.returns
-returns c = draws c.take_plan.ensures _ c.draw.result c.in_ok-take_plan.was c.draw.ensures
+returns c = draws c.take_plan-taken.ensures _ c.draw.result c.in_ok-taken.was c.draw.ensures

@@ -6,7 +6,7 @@ use Rattle.job.specs.declared.Reading.{Reading}
 use Rattle.job.specs.declared.Verdict.TheVariants.{Counts}
 use Rattle.job.specs.Job.{Job}
 use Rattle.job.specs.Read.{accepted, read_job, reading_of}
-use Rattle.job.specs.Accepted.{counted, refused_is}
+use Rattle.job.specs.Accepted.{counted, refused_by}
 use Rattle.etf.specs.Instance.{tasks}
 use Rattle.etf.specs.OfJob.{instance}
 use Rattle.kelvrist.proofs.tasks_of.Goals as goal
@@ -18,7 +18,7 @@ has file m l e = let found = counted (read_job file) m l e in (found.0, found.1,
 
 pub returns-in_default : goal.returns-in_default
 returns-in_default c =
-    refused_is _ (ap (λ (r : Reading). r.verdict) (sym c.read_into-found.ensures) ∙ c.refusal.ensures)
+    refused_by _ c.read_into-found.ensures c.in_default.is c.refusal.ensures
 
 pub returns : goal.returns
 returns c =

@@ -70,10 +70,10 @@ refusal_put p e h = put_front (rw e at p) h
 
 -- ---- a refused file
 
-pub refused_listed : (file out : List ℕ) {x : Reading} {k : Refusal} {n : ℕ} {c : ListingCall} → x ≡ reading_of (read_job file)
+pub refused_listed : (file out : List ℕ) {x : Reading} {k n : ℕ} {c : ListingCall} → x ≡ reading_of (read_job file)
     → x.verdict ≡ Refused k → n ≡ verdict_number x.verdict → c ≡ put_first (refusal_line n) out → c ≡ listing_call file out
 refused_listed file out e v g h =
-    let says = refused_is file (ap (λ (y : Reading). y.verdict) (sym e) ∙ v) in
+    let says = refused_is (read_job file) (ap (λ (y : Reading). y.verdict) (sym e) ∙ v) in
     h ∙ (ap (λ (i : ℕ). put_first (refusal_line i) out) (g ∙ ap verdict_number v) ∙ refused_text file out _ says)
 
 -- ---- an accepted file

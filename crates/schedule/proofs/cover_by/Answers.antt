@@ -21,18 +21,18 @@ pub returns-in_default : goal.returns-in_default
 unfolding cover_call_by
 returns-in_default c =
     let ties = c.args.ties in
-    passes_on _ c.read_into-found.ensures c.refusal.ensures
+    passes_on _ c.read_into-found.ensures c.in_default.is c.refusal.ensures
     arrival_places Refused (plan_by (instance_by ties) (answer ties)) _ _ _
 
 pub instance_of-instance-requires : goal.instance_of-instance-requires
-instance_of-instance-requires c = may_plan (read_as c.read_into-found.ensures c.in-Counts.is) refl c.square-costs.ensures
+instance_of-instance-requires c = may_plan (read_as c.read_into-found.ensures c.in-Counts.is) refl c.fill_square.ensures
 
 pub returns-in_default-lay_out : goal.returns-in_default-lay_out
 unfolding cover_call_by
 returns-in_default-lay_out c =
     let ties = c.args.ties in
     let read = read_as c.read_into-found.ensures c.in-Counts.is in
-    let same = handed_by read c.instance_of-instance.result c.instance_of-instance.ensures c.square-costs.ensures ties in
+    let same = handed_by read c.instance_of-instance.result c.instance_of-instance.ensures c.fill_square.ensures ties in
     call_short read (tie_rule ties) same Refused (answer ties) _ _ _ (ap as_laid c.in_default-lay_out.is) c.lay_out.ensures
 
 pub measure-requires : goal.measure-requires
@@ -48,7 +48,7 @@ returns c =
     let read = read_as c.read_into-found.ensures c.in-Counts.is in
     let H = c.instance_of-instance.result in
     let F = plannable H in
-    let same = handed_by read H c.instance_of-instance.ensures c.square-costs.ensures ties in
+    let same = handed_by read H c.instance_of-instance.ensures c.fill_square.ensures ties in
     let laid = ap as_laid c.in-Some.is in
     let holds = held_in F ties (laid_holds (plannable_by F ties) _ _ _ laid c.lay_out.ensures) in
     call_end read (tie_rule ties) same Refused (answer ties) _ _ _ laid c.lay_out.ensures

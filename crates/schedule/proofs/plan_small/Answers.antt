@@ -17,16 +17,16 @@ use Rattle.schedule.proofs.plan_small.Goals as goal
 pub returns-in_default : goal.returns-in_default
 unfolding small_call
 returns-in_default c =
-    passes_on _ c.read_into-found.ensures c.refusal.ensures
+    passes_on _ c.read_into-found.ensures c.in_default.is c.refusal.ensures
     small_places Refused (λ j. laid_small (Plan (outcome j)) (instance j)) _ _ _
 
 pub instance_of-instance-requires : goal.instance_of-instance-requires
-instance_of-instance-requires c = may_plan (read_as c.read_into-found.ensures c.in-Counts.is) refl c.square-costs.ensures
+instance_of-instance-requires c = may_plan (read_as c.read_into-found.ensures c.in-Counts.is) refl c.fill_square.ensures
 
 pub returns-in_default-lay_small : goal.returns-in_default-lay_small
 returns-in_default-lay_small c =
     let read = read_as c.read_into-found.ensures c.in-Counts.is in
-    let same = handed_held read c.instance_of-instance.result c.instance_of-instance.ensures c.square-costs.ensures in
+    let same = handed_held read c.instance_of-instance.result c.instance_of-instance.ensures c.fill_square.ensures in
     call_small_short read same _ _ _ (ap as_laid c.in_default-lay_small.is) c.lay_small.ensures
 
 pub end-reported-requires : goal.end-reported-requires
@@ -34,12 +34,12 @@ end-reported-requires c =
     let read = read_as c.read_into-found.ensures c.in-Counts.is in
     let given = plannable c.instance_of-instance.result in
     let held = small_holds given _ _ _ (ap as_laid c.in-Some.is) c.lay_small.ensures in
-    deliverable given held.0 held.1 _ (handed_near read c.instance_of-instance.result c.instance_of-instance.ensures c.square-costs.ensures)
+    deliverable given held.0 held.1 _ (handed_near read c.instance_of-instance.result c.instance_of-instance.ensures c.fill_square.ensures)
 
 pub returns : goal.returns
 returns c =
     let read = read_as c.read_into-found.ensures c.in-Counts.is in
-    let same = handed_held read c.instance_of-instance.result c.instance_of-instance.ensures c.square-costs.ensures in
+    let same = handed_held read c.instance_of-instance.result c.instance_of-instance.ensures c.fill_square.ensures in
     let given = plannable c.instance_of-instance.result in
     let laid = ap as_laid c.in-Some.is in
     let held = small_holds given _ _ _ laid c.lay_small.ensures in

@@ -1,10 +1,13 @@
 -- The checker's answer.
 use Rattle.std.specs.Prelude.{◌≡◌, Result, Ok, Err, refl, ℕ}
 use Rattle.std.proofs.Common.{sym, ap, ◌∙◌}
+use Rattle.job.specs.declared.Arrays.{Arrays}
 use Rattle.job.specs.declared.Reading.{Reading}
 use Rattle.job.specs.declared.table.Refusal.{Refusal}
+use Rattle.job.specs.Read.{reading_as}
 use Rattle.job.specs.Table.{number_of, refusal, refusal_is}
 use Rattle.schedule.specs.declared.Judged.{Judged}
+use Rattle.schedule.specs.declared.JudgedFound.{JudgedFound}
 
 -- a yes, or the number of a refusal
 pub data Checked : Type 0 where
@@ -31,3 +34,7 @@ pub record Judgement : Type 0 where
 
 abbrev pub as_judgement : Judged → Judgement
 as_judgement j = record { reading = j.reading; checked = as_checked j.checked }
+
+-- .. beside the arrays that were filled
+abbrev pub found_judgement : JudgedFound → Arrays → Judgement
+found_judgement j a = record { reading = reading_as j.found a; checked = as_checked j.checked }

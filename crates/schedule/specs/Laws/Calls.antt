@@ -14,8 +14,8 @@ use Rattle.base.specs.Laws.Tests.{impossible}
 use Rattle.base.specs.Laws.Filled.{filled-length, filled_at, filled-filled}
 use Rattle.job.specs.declared.Reading.{Reading}
 use Rattle.job.specs.Job.{Job}
-use Rattle.job.specs.Read.{refused, read_job, reading_of}
-use Rattle.job.specs.Table.{number_of as table_number}
+use Rattle.job.specs.Read.{refused, read_job, verdict_number, reading_of}
+use Rattle.job.specs.Table.{number_of as table_number, refusal}
 use Rattle.etf.specs.Instance.{Instance, tasks}
 use Rattle.etf.specs.Schedule.{end}
 use Rattle.etf.specs.Cover.{cover}
@@ -36,7 +36,7 @@ use Rattle.schedule.specs.Plan.{last_of, end_by, outcome_by}
 use Rattle.schedule.specs.Cover.{figures}
 use Rattle.schedule.specs.Check.{check_of, checked_as, check_for, check_call, judge_call}
 use Rattle.schedule.specs.Pass.{said, Room, short_of, run_call, lay_call}
-use Rattle.job.specs.Accepted.{refused_is}
+use Rattle.job.specs.Accepted.{refused_by}
 use Rattle.schedule.specs.CoverPass.{HoldsPlan}
 use Rattle.schedule.specs.Laws.Held.{held_tasks}
 use Rattle.schedule.specs.Laws.Reading.{Read}
@@ -145,18 +145,19 @@ measured_right same e = rw (e, same)
 
 -- ---- a refused file: the reader's number is passed on
 
-module _ (file : List ℕ) {x : Reading} (e : x ≡ reading_of (read_job file)) {k : Refusal} (v : x.verdict ≡ Refused k) where
-  file_refused : read_job file ≡ refused (table_number k)
-  file_refused = refused_is file (ap (λ (r : Reading). r.verdict) (sym e) ∙ v)
+module _ (file : List ℕ) {x : Reading} (e : x ≡ reading_of (read_job file)) {k : ℕ} (v : x.verdict ≡ Refused k)
+    {r : Refusal} (q : r ≡ refusal (verdict_number x.verdict)) where
+  file_refused : read_job file ≡ refused (table_number r)
+  file_refused = refused_by file e v q
 
   pub passes_on : {R : Type 0} (places : ℕ) (refuse : ℕ → R) (accept : Job → List ℕ → List ℕ → List ℕ → Call R)
       (starts processors scratch : List ℕ)
-      → called (refuse (table_number k)) starts processors scratch
+      → called (refuse (table_number r)) starts processors scratch
       ≡ call_for places refuse accept (read_job file) starts processors scratch
   unfolding call_for
   passes_on places refuse accept starts processors scratch = rw file_refused
 
-  pub check_passes_on : (starts processors : List ℕ) → NotChecked (table_number k) ≡ check_call file starts processors
+  pub check_passes_on : (starts processors : List ℕ) → NotChecked (table_number r) ≡ check_call file starts processors
   unfolding check_call check_for
   check_passes_on starts processors = rw file_refused
 

@@ -57,7 +57,7 @@ module _ (q : In-loop-progress) where
 pub loop-progress-init : goal.loop-progress-init
 loop-progress-init c =
     let F = plannable c.args.instance.now in
-    let counted = counts_at _ _ (edges_there F).1 (omega (arith, F.few_edges)) c.counts.ensures in
+    let counted = counts_at _ _ (edges_there F).1 (omega (arith, F.few_edges)) c.fill_counts.ensures in
     (0, follows_first F c.requires refl refl refl counted.0 counted.1 refl (zeros_at 16))
 
 pub look-choice-requires : goal.look-choice-requires

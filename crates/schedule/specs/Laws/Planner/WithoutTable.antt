@@ -37,7 +37,7 @@ use Rattle.schedule.specs.Laws.Planner.ReadOff.{ready_is}
 use Rattle.schedule.specs.Laws.Planner.SearchSteps.{listed_below, row_by_same}
 use Rattle.schedule.specs.Laws.Planner.EdgesOfTask.{first_edge, last_edge, last_most}
 use Rattle.schedule.specs.Laws.Planner.Invariant.{Invariant, holds_first, holds_last, holds_moved, holds_placed, sound, finish_by}
-use Rattle.schedule.specs.Laws.Planner.Invariant.{ran_on, moved_on, clock_small, chosen_below}
+use Rattle.schedule.specs.Laws.Planner.Invariant.{ran_on, moved_on, clock_small, more_rounds, chosen_below}
 use Rattle.schedule.specs.Laws.Planner.Ends.{to_go, goes_down}
 use Rattle.schedule.specs.Laws.Planner.Invariant.{task_small, finish_small, to_place, finish_is}
 
@@ -254,6 +254,9 @@ module _ {A : InArrays} (F : Plannable A) {starts₀ processors₀ scratch₀ : 
 
     pub clock_low : clock < never
     clock_low = clock_small F table_room Y.inner
+
+    pub rounds_low : low < A.tasks → rounds < 2 * A.tasks
+    rounds_low more = more_rounds F table_room Y.inner more
 
     -- a round brings down what is left to do
     pub goes_down_low : {H' : Sheet} {clock' e' low' : ℕ} → Holding H' clock' e' low' (rounds + 1) → low < A.tasks

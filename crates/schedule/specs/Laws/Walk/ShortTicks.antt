@@ -15,7 +15,7 @@ use Rattle.etf.specs.Instance.{Instance, tasks, duration}
 use Rattle.etf.specs.Schedule.{Placement, placement_of, finish}
 use Rattle.etf.specs.Rule.{planned}
 use Rattle.etf.specs.Cover.{busy, idle, some_idle, latest_idle_tick, lowest_idle}
-use Rattle.etf.specs.Checker.{Apart}
+use Rattle.etf.specs.Checker.{latest_start, Apart}
 use Rattle.etf.specs.Bounds.{most_message_time, most_finish}
 use Rattle.etf.proofs.Laws.Running.{running_of}
 use Rattle.etf.proofs.Laws.Placements.{busy_in, busy_of}
@@ -28,7 +28,7 @@ use Rattle.schedule.specs.InPlace.{EachInPlace}
 use Rattle.schedule.specs.InArrays.{InArrays, instance_in, Plannable}
 use Rattle.schedule.specs.declared.timetable.Timetable.{Timetable}
 use Rattle.schedule.specs.Handed.{plannable}
-use Rattle.schedule.specs.CoverPass.{has, ApartIn, Scheduled, Running, ShortBefore, HoldsPlan}
+use Rattle.schedule.specs.CoverPass.{has, ApartIn, ScheduledBy, Scheduled, Running, ShortBefore, HoldsPlan}
 use Rattle.schedule.specs.Laws.Held.{held_tasks, held_few, timed, short_tasks, well, near_processors}
 use Rattle.schedule.specs.Laws.Walk.Sets.{member_below, lowest_in_lem, lowest_first}
 
@@ -91,7 +91,8 @@ module _ (I : Instance) (ps : List Placement) where
 
 -- a timetable is a schedule, if no two tasks are at one time on one processor
 pub scheduled_in : (x : Timetable) → ApartIn x
-    → Scheduled x.instance.tasks x.instance.durations.now x.plan.starts.now x.plan.processors.now x.instance.processors
+    → ScheduledBy x.instance.tasks x.instance.durations.now x.plan.starts.now x.plan.processors.now (latest_start + most_duration)
+    x.instance.processors
 scheduled_in x apart =
     let F = plannable x.instance in record {
       few = F.few_tasks;
@@ -100,6 +101,7 @@ scheduled_in x apart =
       has_starts = x.in_place.has_starts;
       has_processors = x.in_place.has_processors;
       takes_time = F.takes_time;
+      in_time = x.in_place.in_time;
       on_processor = x.in_place.on_processor;
       apart = apart;
     }
@@ -146,7 +148,7 @@ module _ {A : InArrays} (F : Plannable A) {starts processors : List ℕ} (H : Ho
       let late = finish_most I (well F) most_duration most_message_time (short_tasks F) (near_processors F) (placement_of ps T) u in
       omega (arith, finish_is T h, late, held_few F)
 
-  -- the arrays have a schedule: no two of its tasks are on one processor at one time
+  -- the arrays have a schedule: its tasks end in time and no two are on one processor at one time
   pub scheduled : Scheduled m durations starts processors A.processors
   scheduled = record {
     few = F.few_tasks;
@@ -155,6 +157,7 @@ module _ {A : InArrays} (F : Plannable A) {starts processors : List ℕ} (H : Ho
     has_starts = H.has_starts;
     has_processors = H.has_processors;
     takes_time = F.takes_time;
+    in_time = in_time;
     on_processor = λ T h. omega (arith, processor_is T h, on_processor I (well F) T (task_there T h), has_processors);
     apart = λ T U h k ne e.
         let a = home I (well F) T (task_there T h) in

@@ -1,4 +1,4 @@
--- `square`: each entry is the square's, or its place, counted row by row, is still to come.
+-- `lay`: each entry is the square's, or its place, counted row by row, is still to come.
 use mathlib.Core.Path.{◌≡◌, refl, ap, sym, ◌∙◌}
 use mathlib.Core.Logic.{◌⊎◌, inl, inr}
 use mathlib.Core.List.{List, [], ◌∷◌}
@@ -11,7 +11,7 @@ use Rattle.base.specs.Laws.Tests.{lt_or_ge}
 use Rattle.etf.specs.Topology.{entry, square, cost}
 use Rattle.etf.proofs.Laws.Costs.{square_length, row_length, square_at}
 use Rattle.costs.specs.Wires.{loaded}
-use Rattle.costs.proofs.square.Given as goal
+use Rattle.costs.proofs.lay.Given as goal
 
 -- ---- rows of rows: one store
 
