@@ -75,7 +75,7 @@
  *   length is 0.
  * - The bytes of the job, of the plan and of the page do not overlap, and nobody else writes to them
  *   during a call, nor reads the plan that a planner is filling or the page that kelvrist_page is.
- * - The stack has room: kelvrist_plan and kelvrist_plan_by_weight take about 37 KB, kelvrist_plan_small
+ * - The stack has room: kelvrist_plan and kelvrist_plan_by_weight take about 34 KB, kelvrist_plan_small
  *   about 15 KB, kelvrist_check and kelvrist_page about 9 KB.
  *
  * The library takes nothing from the heap, has no global data and keeps nothing between calls: calls
