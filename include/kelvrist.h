@@ -169,7 +169,7 @@ uint32_t kelvrist_plan(const uint8_t *job, size_t job_length, uint8_t *plan, siz
 
 /* Plans a job as kelvrist_plan does: the same number and the same bytes, with less memory and more
  * time. It keeps no table of when messages arrive, and works arrivals out when they are wanted: mostly
- * 1.1 to 2.8 times kelvrist_plan's time; the longest known is 5 ms (x86-64), beside 0.7 ms.
+ * 0.9 to 3.0 times kelvrist_plan's time; the longest known is 5 ms (x86-64), beside 0.7 ms.
  *
  * On KELVRIST_OK the first 5m bytes of the plan are filled, and no other byte is altered.
  * On 1 to 9, 14 and 15 nothing is altered. 10 to 13 are not returned.
